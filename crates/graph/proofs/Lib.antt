@@ -1,0 +1,5 @@
+pub mod Computing
+pub mod Direct
+pub mod Pigeon
+pub mod Sweep
+pub mod Walks

@@ -1,0 +1,2 @@
+pub mod Digraph
+pub mod Reached

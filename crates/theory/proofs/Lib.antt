@@ -1,0 +1,5 @@
+pub mod Accepting
+pub mod Deciding
+pub mod Forms
+pub mod Members
+pub mod Scanning
