@@ -1,3 +1,6 @@
+ghost use mathlib.Core.Path.{_≡_};
+ghost use Rattle.theory.specs.Table.{hasForm};
+ghost use Rattle.layout.specs.Meaning.{axiomIn};
 use names::Concept;
 use names::Individual;
 use names::Role;
@@ -29,4 +32,16 @@ pub enum Axiom {
     OpenConcept(Concept),
     /// 12: role p is open
     OpenRole(Role),
+}
+
+impl Axiom {
+    /// Whether it asks for a witness, as form 8 does.
+    pub fn asks_witness(self) -> bool
+        ensures { λ r. ⌜ r ≡ hasForm 8 (axiomIn self) ⌝ }
+    {
+        match self {
+            Axiom::Exists(_, _, _) => true,
+            _ => false,
+        }
+    }
 }

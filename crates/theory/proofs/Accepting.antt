@@ -19,14 +19,14 @@ use Rattle.theory.proofs.Members.{any-of, all-of}
 use Rattle.theory.proofs.Forms.{same-axiom, seventh-is}
 use Rattle.theory.proofs.Deciding.{included-decides, simple-decides, unsafe-decides, counted-declared}
 
+pub same-words : (k l : Line) → k .form ≡ l .form → k .p ≡ l .p → k .q ≡ l .q → k .r ≡ l .r → k .s ≡ l .s → k ≡ l
+same-words k l a b c d e i = record { form = a i; p = b i; q = c i; r = d i; s = e i }
+
 pub same-line : (k l : Line) → Decides (sameLine k l) (k ≡ l)
 same-line k l =
-    decides-like (sameLine k l) (λ (a, b, c, d, e). together k l a b c d e) (λ h. (ap (λ (x : Line). x .form) h, ap (λ (x : Line). x .p) h, ap (λ (x : Line). x .q) h, ap (λ (x : Line). x .r) h, ap (λ (x : Line). x .s) h))
+    decides-like (sameLine k l) (λ (a, b, c, d, e). same-words k l a b c d e) (λ h. (ap (λ (x : Line). x .form) h, ap (λ (x : Line). x .p) h, ap (λ (x : Line). x .q) h, ap (λ (x : Line). x .r) h, ap (λ (x : Line). x .s) h))
     (decides-like (sameLine k l) (λ (a, (b, (c, (d, e)))). (a, b, c, d, e)) (λ (a, b, c, d, e). (a, (b, (c, (d, e)))))
     (decides-and _ _ (decides-eqb (k .form) (l .form)) (decides-and _ _ (decides-eqb (k .p) (l .p)) (decides-and _ _ (decides-eqb (k .q) (l .q)) (decides-and _ _ (decides-eqb (k .r) (l .r)) (decides-eqb (k .s) (l .s)))))))
-  where
-    together : (k l : Line) → k .form ≡ l .form → k .p ≡ l .p → k .q ≡ l .q → k .r ≡ l .r → k .s ≡ l .s → k ≡ l
-    together k l a b c d e i = record { form = a i; p = b i; q = c i; r = d i; s = e i }
 
 same-lines : (a b : Axiom) → Decides (sameLine (lineOf a) (lineOf b)) (a ≡ b)
 same-lines a b = decides-like _ (same-axiom a b) (ap lineOf) (same-line (lineOf a) (lineOf b))
@@ -41,11 +41,11 @@ apart-decides [] = (λ _. tt, λ _. refl)
 apart-decides (a ∷ l) = decides-and (not (anyOf (λ b. sameLine (lineOf a) (lineOf b)) l)) (apart l) (decides-not _ (stands a l)) (apart-decides l)
 
 module _ (t : Table) (declared : Declared t) where
-  counts-simple : (a : Axiom) → a ∈ t .axioms → countsSimple t a ≡ true → (p q r : ℕ) → a ≡ atMostOne p q r → Simple t q
+  pub counts-simple : (a : Axiom) → a ∈ t .axioms → countsSimple t a ≡ true → (p q r : ℕ) → a ≡ atMostOne p q r → Simple t q
   counts-simple a m e p q r is =
       simple-decides t declared q (counted-declared t declared p q r (Memᴰ·cast (sym is) m)) .0 (sym (ap (countsSimple t) is) ∙ e)
 
-  simple-counts : ((p q r : ℕ) → atMostOne p q r ∈ t .axioms → Simple t q) → (a : Axiom) → a ∈ t .axioms → countsSimple t a ≡ true
+  pub simple-counts : ((p q r : ℕ) → atMostOne p q r ∈ t .axioms → Simple t q) → (a : Axiom) → a ∈ t .axioms → countsSimple t a ≡ true
   simple-counts simple a m =
       ⊎-elim
       (λ e.
@@ -53,6 +53,13 @@ module _ (t : Table) (declared : Declared t) where
       let there = Memᴰ·cast (sym is) m in
       ap (countsSimple t) is ∙ simple-decides t declared q (counted-declared t declared p q r there) .1 (simple p q r there))
       (λ e. cond-false (hasForm 7 a) _ true e) (cases-bool (hasForm 7 a))
+
+pub sizes-within : (c r i n : ℕ) → sizesFit c r i n ≡ true → (2 ≤ c) × (c ≤ 32) × (r ≤ 7) × (1 ≤ i) × (i ≤ 16) × (n ≤ 64)
+sizes-within c r i n e =
+    let (cs, e) = and-parts (leb 2 c && leb c 32) _ e in
+    let (rs, e) = and-parts (leb r 7) _ e in
+    let (is, ns) = and-parts (leb 1 i && leb i 16) _ e in
+    (grind (arith, tells), grind (arith, tells), grind (arith, tells), grind (arith, tells), grind (arith, tells), grind (arith, tells))
 
 pub well-formed : (t : Table) → Decides (wellFormed t) (WellFormed t)
 well-formed t = (accept, accepted)
@@ -63,15 +70,13 @@ well-formed t = (accept, accepted)
         let (known, e) = and-parts (allOf (declares t) (t .axioms)) _ e in
         let (once, e) = and-parts (apart (t .axioms)) _ e in
         let (few, simple) = and-parts (leb (countOf (hasForm 8) (t .axioms)) 32) _ e in
-        let (cs, sizes) = and-parts (leb 2 (t .concepts) && leb (t .concepts) 32) _ sizes in
-        let (rs, sizes) = and-parts (leb (t .roles) 7) _ sizes in
-        let (is, ns) = and-parts (leb 1 (t .individuals) && leb (t .individuals) 16) _ sizes in
+        let within = sizes-within (t .concepts) (t .roles) (t .individuals) (length (t .axioms)) sizes in
         let declared : Declared t = all-of (declares t) (t .axioms) .0 known in
         record {
-          concepts = (grind (arith, tells), grind (arith, tells));
-          roles = grind (arith, tells);
-          individuals = (grind (arith, tells), grind (arith, tells));
-          few = grind (arith, tells);
+          concepts = (within .0, within .1);
+          roles = within .2;
+          individuals = (within .3, within .4);
+          few = within .5;
           declared = declared;
           apart = apart-decides (t .axioms) .0 once;
           witnesses = grind (arith, tells);

@@ -1,10 +1,10 @@
 -- The tests that compute tell the truth.
-use Prim.Native.Nat.{ℕ, zero, suc, _+_, _-_, _<_, _≤_}
+use Prim.Native.Nat.{ℕ, _+_, _-_, _<_, _≤_}
 use native.Mathlib.Omega.{arith}
 use mathlib.Core.Path.{_≡_, refl, sym, ap, subst, _∙_}
 use mathlib.Core.Bool.{Bool, true, false, not, cond, _&&_, _||_}
 use mathlib.Core.Logic.{_⊎_, inl, inr, ⊎-elim}
-use mathlib.Core.List.{List, [], _∷_, List·Memᴰ·head, List·Memᴰ·tail, Memᴰ·cast}
+use mathlib.Core.List.{Memᴰ·cast}
 use lib.Dec.{eqb, ltb, leb}
 use borrow.Author.Tests.{ltb-true}
 use Rattle.std.specs.Orderings.{Decides}
@@ -20,6 +20,7 @@ use Rattle.theory.specs.Table.{Axiom, Table, transitive, filler, atMostOne, ex
 use Rattle.theory.specs.Roles.{Expression, plain, inverse, nameOf, Inclusion, within, inclusions, Included, same, more, Simple, UnsafeRole, counted, counted-back, filled, Unsafe, sameExpression, isInclusion, nodeOf, expressionAt, includesBy, inclusionGraph, included, spoils, isSimple, endangers, hasUnsafe, unsafeIn, isUnsafe}
 use Rattle.theory.specs.WellFormed.{declares, Declared}
 use Rattle.theory.proofs.Members.{any-of}
+use Rattle.theory.proofs.Places.{nth-in}
 use Rattle.theory.proofs.Forms.{inclusion-names, spoils-is, endangers-is, has-unsafe-is}
 
 same-expression : (e f : Expression) → Decides (sameExpression e f) (e ≡ f)
@@ -38,8 +39,8 @@ includes-by e f a =
     decides-like (includesBy e f a) (λ (i, m, q). Memᴰ·cast (sym (is-inclusion e f i .0 q)) m) (λ m. (within e f, m, is-inclusion e f (within e f) .1 refl))
     (any-of (isInclusion e f) (inclusions a))
 
-module _ (t : Table) (declared : Declared t) where
-  node-below : (e : Expression) → nameOf e < t .roles → nodeOf t e < t .roles + t .roles
+module _ (t : Table) where
+  pub node-below : (e : Expression) → nameOf e < t .roles → nodeOf t e < t .roles + t .roles
   node-below (plain p) h = omega arith
   node-below (inverse p) h = omega arith
 
@@ -47,13 +48,14 @@ module _ (t : Table) (declared : Declared t) where
   at-node (plain p) h = cond-true (ltb p (t .roles)) _ _ (grind (arith, tells))
   at-node (inverse p) h = cond-false (ltb (t .roles + p) (t .roles)) _ _ (grind (arith, tells)) ∙ ap inverse (omega arith)
 
+module _ (t : Table) (declared : Declared t) where
   to-step : (a : Axiom) (e f : Expression) → a ∈ t .axioms → within e f ∈ inclusions a → Step (inclusionGraph t) (nodeOf t e) (nodeOf t f)
   to-step a e f m i =
       let (h, k) = inclusion-names t a e f (declared a m) i in
       record {
-        from = node-below e h;
-        to = node-below f k;
-        runs = rw (at-node e h, at-node f k) (any-of (includesBy e f) (t .axioms) .1 (a, m, includes-by e f a .1 i));
+        from = node-below t e h;
+        to = node-below t f k;
+        runs = rw (at-node t e h, at-node t f k) (any-of (includesBy e f) (t .axioms) .1 (a, m, includes-by e f a .1 i));
       }
 
   to-leads : {e f : Expression} → Included t e f → Leads (inclusionGraph t) (nodeOf t e) (nodeOf t f)
@@ -70,8 +72,8 @@ module _ (t : Table) (declared : Declared t) where
   pub included-decides : (e f : Expression) → nameOf e < t .roles → nameOf f < t .roles → Decides (included t e f) (Included t e f)
   included-decides e f h k =
       decides-like (included t e f)
-      (λ p. subst (λ x. Included t x f) (at-node t declared e h) (subst (λ y. Included t (expressionAt t (nodeOf t e)) y) (at-node t declared f k) (from-leads t p)))
-      (to-leads t declared) (reach-computes (inclusionGraph t) (nodeOf t e) (nodeOf t f) (node-below t declared e h))
+      (λ p. subst (λ x. Included t x f) (at-node t e h) (subst (λ y. Included t (expressionAt t (nodeOf t e)) y) (at-node t f k) (from-leads t p)))
+      (to-leads t declared) (reach-computes (inclusionGraph t) (nodeOf t e) (nodeOf t f) (node-below t e h))
 
   transitive-declared : (p : ℕ) → transitive p ∈ t .axioms → p < t .roles
   transitive-declared p m = omega (arith, ltb-true p (t .roles) (declared (transitive p) m))
@@ -136,11 +138,6 @@ module _ (t : Table) (declared : Declared t) where
 
   pub unsafe-role-decides : (r : ℕ) → r < t .roles → Decides (anyOf (endangers t r) (t .axioms)) (UnsafeRole t r)
   unsafe-role-decides r h = (λ e. let (a, m, q) = any-of (endangers t r) (t .axioms) .0 e in endangered r h a m q, endangering r h)
-
-nth-in : {A : Type 0} (l : List A) (k : ℕ) (a : A) → nth l k ≡ Some a → a ∈ l
-nth-in [] k a e = let z : _≡_ {A = ℕ} 0 1 = cc in absurd (omega arith)
-nth-in (b ∷ l) zero a e = List·Memᴰ·head (cc)
-nth-in (b ∷ l) (suc k) a e = List·Memᴰ·tail (nth-in l k a e)
 
 module _ (t : Table) (declared : Declared t) where
   to-unsafe : (k : ℕ) (o : Option Axiom) → nth (t .axioms) k ≡ o → unsafeIn t o ≡ true → Unsafe t k

@@ -2,4 +2,5 @@ pub mod Accepting
 pub mod Deciding
 pub mod Forms
 pub mod Members
+pub mod Places
 pub mod Scanning

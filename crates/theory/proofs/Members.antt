@@ -1,9 +1,12 @@
 -- Tests of each element of a list.
-use Prim.Native.Nat.{ℕ}
+use Prim.Native.Nat.{ℕ, zero, suc, _<_}
+use native.Mathlib.Nat.{le-of-suc-le-suc}
+use native.Mathlib.Omega.{arith}
 use mathlib.Core.Path.{_≡_, refl, sym, ap, subst, _∙_}
 use mathlib.Core.Bool.{Bool, true, false}
 use mathlib.Core.Logic.{_⊎_, inl, inr, ⊎-elim}
-use mathlib.Core.List.{List, [], _∷_, List·Memᴰ·head, List·Memᴰ·tail}
+use mathlib.Core.List.{List, [], _∷_, map, List·Memᴰ·head, List·Memᴰ·tail}
+use lib.ListN.{length, getD}
 use Rattle.std.specs.Orderings.{Decides}
 use Rattle.std.proofs.shelf.Tests.{both-ways, or-cases, or-left, or-right, and-parts, and-from}
 use Rattle.theory.specs.Lists.{_∈_, anyOf, allOf}
@@ -33,3 +36,9 @@ all-of p (b ∷ l) =
     each : (a : _) → a ∈ (b ∷ l) → p b ≡ true → ((a : _) → a ∈ l → p a ≡ true) → p a ≡ true
     each a (List·Memᴰ·head e) u below = ap p e ∙ u
     each a (List·Memᴰ·tail m) u below = below a m
+
+-- what passes at each element passes at the i-th
+pub all-at : {A B : Type 0} (p : B → Bool) (f : A → B) (xs : List A) (i : ℕ) (x : A) → i < length xs → x ≡ getD xs i x → allOf p (map f xs) ≡ true → p (f x) ≡ true
+all-at p f [] i x h e all = absurd (omega arith)
+all-at p f (y ∷ xs) zero x h e all = ap (λ z. p (f z)) e ∙ and-parts (p (f y)) (allOf p (map f xs)) all .0
+all-at p f (y ∷ xs) (suc i) x h e all = all-at p f xs i x (le-of-suc-le-suc h) e (and-parts (p (f y)) (allOf p (map f xs)) all .1)

@@ -22,3 +22,10 @@ module _ {A B : Type 0} (p : B → Bool) (f : A → B) (xs : List A) (i : ℕ) w
 
   pub scan-all : length xs ≤ i → Left p f xs i → anyOf p (map f xs) ≡ false
   scan-all h left = sym left ∙ at-drop-all (λ l. anyOf p (map f l)) xs i h
+
+  -- the same where the element goes by a name
+  pub item-found : (x : A) → i < length xs → x ≡ getD xs i x → Left p f xs i → p (f x) ≡ true → anyOf p (map f xs) ≡ true
+  item-found x h is left e = scan-found x h left (ap (λ y. p (f y)) (sym is) ∙ e)
+
+  pub item-more : (x : A) → i < length xs → x ≡ getD xs i x → Left p f xs i → p (f x) ≡ false → Left p f xs (i + 1)
+  item-more x h is left e = scan-more x h left (ap (λ y. p (f y)) (sym is) ∙ e)

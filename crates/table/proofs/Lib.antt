@@ -1,0 +1,5 @@
+pub mod Checking
+pub mod Counting
+pub mod Deciding
+pub mod Reading
+pub mod Rest
