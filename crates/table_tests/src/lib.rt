@@ -1,0 +1,5 @@
+// Tests of checking, on tables that are written out.
+#[cfg(test)]
+mod bytes;
+#[cfg(test)]
+mod refusals;
