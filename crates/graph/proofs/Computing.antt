@@ -15,7 +15,7 @@ use Rattle.graph.proofs.Walks.{leads-walk}
 use Rattle.graph.proofs.Direct.{direct}
 use Rattle.graph.proofs.Pigeon.{pigeon}
 
-some-below : (p : ℕ → Bool) (P : ℕ → Type 0) (n : ℕ) → ((k : ℕ) → k < n → Decides (p k) (P k)) → Decides (someBelow p n) ((k : ℕ) × (k < n) × P k)
+pub some-below : (p : ℕ → Bool) (P : ℕ → Type 0) (n : ℕ) → ((k : ℕ) → k < n → Decides (p k) (P k)) → Decides (someBelow p n) ((k : ℕ) × (k < n) × P k)
 some-below p P zero each = (λ e. absurd (both-ways _ refl e), λ (k, h, q). absurd (omega arith))
 some-below p P (suc n) each =
     let below = some-below p P n (λ k h. each k (omega arith)) in (
