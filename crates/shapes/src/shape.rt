@@ -2,12 +2,12 @@ ghost use Prim.Native.Nat.{_<_};
 ghost use Rattle.std.specs.Orderings.{Decides};
 ghost use Rattle.shapes.specs.Cycles.{Turns, DirectedCycle, UndirectedCycle, Rejoined};
 ghost use Rattle.shapes.specs.Shapes.{Shaped};
-use graph::graph::Graph;
-use graph::reach::reaches;
 use crate::views::Undirected;
 use crate::views::UndirectedGraph;
 use crate::views::Without;
 use crate::views::WithoutGraph;
+use graph::graph::Graph;
+use graph::reach::reaches;
 
 /// The shape of a graph.
 #[derive(Clone, Copy)]

@@ -3,3 +3,4 @@ pub mod Counting
 pub mod Deciding
 pub mod Reading
 pub mod Rest
+pub mod Viewing

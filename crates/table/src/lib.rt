@@ -6,3 +6,4 @@ mod inclusions;
 mod lines;
 mod roles;
 mod stages;
+pub mod view;

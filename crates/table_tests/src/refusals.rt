@@ -40,20 +40,44 @@ fn a_short_table_is_refused_before_its_sizes_are_looked_at() -> Result<(), Fail>
 #[test]
 fn sizes_are_looked_at_in_order(rt: LibcRuntime) -> Result<(), Fail> {
     let heap = rt.alloc();
-    check_eq(answer(encoded(heap, [1, 8, 0, 65], &[])?.as_slice()), (2, 0))?;
-    check_eq(answer(encoded(heap, [33, 8, 0, 65], &[])?.as_slice()), (2, 0))?;
-    check_eq(answer(encoded(heap, [32, 8, 0, 65], &[])?.as_slice()), (2, 1))?;
-    check_eq(answer(encoded(heap, [32, 7, 0, 65], &[])?.as_slice()), (2, 2))?;
-    check_eq(answer(encoded(heap, [32, 7, 17, 65], &[])?.as_slice()), (2, 2))?;
-    check_eq(answer(encoded(heap, [32, 7, 16, 65], &[])?.as_slice()), (2, 3))?;
+    check_eq(
+        answer(encoded(heap, [1, 8, 0, 65], &[])?.as_slice()),
+        (2, 0),
+    )?;
+    check_eq(
+        answer(encoded(heap, [33, 8, 0, 65], &[])?.as_slice()),
+        (2, 0),
+    )?;
+    check_eq(
+        answer(encoded(heap, [32, 8, 0, 65], &[])?.as_slice()),
+        (2, 1),
+    )?;
+    check_eq(
+        answer(encoded(heap, [32, 7, 0, 65], &[])?.as_slice()),
+        (2, 2),
+    )?;
+    check_eq(
+        answer(encoded(heap, [32, 7, 17, 65], &[])?.as_slice()),
+        (2, 2),
+    )?;
+    check_eq(
+        answer(encoded(heap, [32, 7, 16, 65], &[])?.as_slice()),
+        (2, 3),
+    )?;
     check_eq(answer(encoded(heap, [2, 0, 1, 0], &[])?.as_slice()), (0, 0))
 }
 
 #[test]
 fn the_length_follows_from_the_sizes(rt: LibcRuntime) -> Result<(), Fail> {
     let heap = rt.alloc();
-    check_eq(answer(encoded(heap, [7, 2, 2, 8], &LODGE)?.as_slice()), (3, 0))?;
-    check_eq(answer(encoded(heap, [7, 2, 2, 6], &LODGE)?.as_slice()), (3, 0))?;
+    check_eq(
+        answer(encoded(heap, [7, 2, 2, 8], &LODGE)?.as_slice()),
+        (3, 0),
+    )?;
+    check_eq(
+        answer(encoded(heap, [7, 2, 2, 6], &LODGE)?.as_slice()),
+        (3, 0),
+    )?;
     let mut bytes = encoded(heap, [7, 2, 2, 7], &LODGE)?;
     bytes.push(0)?;
     check_eq(answer(bytes.as_slice()), (3, 0))
@@ -63,50 +87,131 @@ fn the_length_follows_from_the_sizes(rt: LibcRuntime) -> Result<(), Fail> {
 fn sixty_four_axioms_are_the_most(rt: LibcRuntime) -> Result<(), Fail> {
     let heap = rt.alloc();
     let rows = many(heap, 64)?;
-    check_eq(answer(encoded(heap, [32, 0, 1, 64], rows.as_slice())?.as_slice()), (0, 0))?;
+    check_eq(
+        answer(encoded(heap, [32, 0, 1, 64], rows.as_slice())?.as_slice()),
+        (0, 0),
+    )?;
     let rows = many(heap, 65)?;
-    check_eq(answer(encoded(heap, [32, 0, 1, 65], rows.as_slice())?.as_slice()), (2, 3))
+    check_eq(
+        answer(encoded(heap, [32, 0, 1, 65], rows.as_slice())?.as_slice()),
+        (2, 3),
+    )
 }
 
 #[test]
 fn an_axiom_passes_its_tests_before_the_next_is_looked_at(rt: LibcRuntime) -> Result<(), Fail> {
     let heap = rt.alloc();
     // an unknown form before an undeclared argument in the same line and in a later one
-    check_eq(answer(encoded(heap, [3, 1, 1, 2], &[[13, 9, 9, 9, 9], [4, 9, 0, 0, 0]])?.as_slice()), (4, 0))?;
-    check_eq(answer(encoded(heap, [3, 1, 1, 1], &[[0, 0, 0, 0, 0]])?.as_slice()), (4, 0))?;
+    check_eq(
+        answer(encoded(heap, [3, 1, 1, 2], &[[13, 9, 9, 9, 9], [4, 9, 0, 0, 0]])?.as_slice()),
+        (4, 0),
+    )?;
+    check_eq(
+        answer(encoded(heap, [3, 1, 1, 1], &[[0, 0, 0, 0, 0]])?.as_slice()),
+        (4, 0),
+    )?;
     // an undeclared argument before an unknown form in a later line
-    check_eq(answer(encoded(heap, [3, 1, 1, 2], &[[4, 2, 2, 3, 2], [13, 0, 0, 0, 0]])?.as_slice()), (5, 0))?;
+    check_eq(
+        answer(encoded(heap, [3, 1, 1, 2], &[[4, 2, 2, 3, 2], [13, 0, 0, 0, 0]])?.as_slice()),
+        (5, 0),
+    )?;
     // an unused word, although the axiom stands twice
-    check_eq(answer(encoded(heap, [3, 1, 1, 2], &[[11, 2, 0, 0, 0], [11, 2, 0, 0, 1]])?.as_slice()), (5, 1))?;
+    check_eq(
+        answer(encoded(heap, [3, 1, 1, 2], &[[11, 2, 0, 0, 0], [11, 2, 0, 0, 1]])?.as_slice()),
+        (5, 1),
+    )?;
     // a repetition before an unknown form in a later line
-    check_eq(answer(encoded(heap, [3, 1, 1, 3], &[[11, 2, 0, 0, 0], [11, 2, 0, 0, 0], [13, 0, 0, 0, 0]])?.as_slice()), (6, 1))
+    check_eq(
+        answer(encoded(
+            heap,
+            [3, 1, 1, 3],
+            &[[11, 2, 0, 0, 0], [11, 2, 0, 0, 0], [13, 0, 0, 0, 0]],
+        )?.as_slice()),
+        (6, 1),
+    )
 }
 
 #[test]
 fn thirty_two_witness_axioms_are_the_most(rt: LibcRuntime) -> Result<(), Fail> {
     let heap = rt.alloc();
     let rows = witnesses(heap, 32)?;
-    check_eq(answer(encoded(heap, [32, 7, 1, 32], rows.as_slice())?.as_slice()), (0, 0))?;
+    check_eq(
+        answer(encoded(heap, [32, 7, 1, 32], rows.as_slice())?.as_slice()),
+        (0, 0),
+    )?;
     // a 33rd, although a role that is not simple is counted
     let mut rows = witnesses(heap, 33)?;
     rows.push([3, 0, 0, 0, 0])?;
     rows.push([7, 2, 0, 2, 0])?;
-    check_eq(answer(encoded(heap, [32, 7, 1, 35], rows.as_slice())?.as_slice()), (7, 32))
+    check_eq(
+        answer(encoded(heap, [32, 7, 1, 35], rows.as_slice())?.as_slice()),
+        (7, 32),
+    )
 }
 
 #[test]
 fn a_counted_role_is_simple(rt: LibcRuntime) -> Result<(), Fail> {
     let heap = rt.alloc();
-    check_eq(answer(encoded(heap, [3, 2, 1, 2], &[[7, 2, 0, 2, 0], [3, 0, 0, 0, 0]])?.as_slice()), (8, 0))?;
-    check_eq(answer(encoded(heap, [3, 2, 1, 2], &[[7, 2, 1, 2, 0], [3, 0, 0, 0, 0]])?.as_slice()), (0, 0))?;
+    check_eq(
+        answer(encoded(heap, [3, 2, 1, 2], &[[7, 2, 0, 2, 0], [3, 0, 0, 0, 0]])?.as_slice()),
+        (8, 0),
+    )?;
+    check_eq(
+        answer(encoded(heap, [3, 2, 1, 2], &[[7, 2, 1, 2, 0], [3, 0, 0, 0, 0]])?.as_slice()),
+        (0, 0),
+    )?;
     // 0 is transitive and 0 ⊑ 1 ⊑ 2⁻, so 2 is not simple
-    check_eq(answer(encoded(heap, [3, 3, 1, 4], &[[3, 0, 0, 0, 0], [1, 0, 1, 0, 0], [2, 1, 2, 0, 0], [7, 2, 2, 2, 0]])?.as_slice()), (8, 3))?;
+    check_eq(
+        answer(encoded(
+            heap,
+            [3, 3, 1, 4],
+            &[
+                [3, 0, 0, 0, 0],
+                [1, 0, 1, 0, 0],
+                [2, 1, 2, 0, 0],
+                [7, 2, 2, 2, 0],
+            ],
+        )?.as_slice()),
+        (8, 3),
+    )?;
     // 0 ⊑ 1⁻ and 1 ⊑ 2: then 0⁻ ⊑ 1 ⊑ 2
-    check_eq(answer(encoded(heap, [3, 3, 1, 4], &[[3, 0, 0, 0, 0], [2, 0, 1, 0, 0], [1, 1, 2, 0, 0], [7, 2, 2, 2, 0]])?.as_slice()), (8, 3))?;
+    check_eq(
+        answer(encoded(
+            heap,
+            [3, 3, 1, 4],
+            &[
+                [3, 0, 0, 0, 0],
+                [2, 0, 1, 0, 0],
+                [1, 1, 2, 0, 0],
+                [7, 2, 2, 2, 0],
+            ],
+        )?.as_slice()),
+        (8, 3),
+    )?;
     // 1⁻ ⊑ 2⁻ follows from 1 ⊑ 2, so 0 ⊑ 1⁻ ⊑ 2⁻ ⊑ 3 with 2 ⊑ 3⁻
-    check_eq(answer(encoded(heap, [3, 4, 1, 5], &[[3, 0, 0, 0, 0], [2, 0, 1, 0, 0], [1, 1, 2, 0, 0], [2, 2, 3, 0, 0], [7, 2, 3, 2, 0]])?.as_slice()), (8, 4))?;
+    check_eq(
+        answer(encoded(
+            heap,
+            [3, 4, 1, 5],
+            &[
+                [3, 0, 0, 0, 0],
+                [2, 0, 1, 0, 0],
+                [1, 1, 2, 0, 0],
+                [2, 2, 3, 0, 0],
+                [7, 2, 3, 2, 0],
+            ],
+        )?.as_slice()),
+        (8, 4),
+    )?;
     // what includes a transitive role is not simple; what it includes is
-    check_eq(answer(encoded(heap, [3, 2, 1, 3], &[[3, 1, 0, 0, 0], [1, 0, 1, 0, 0], [7, 2, 0, 2, 0]])?.as_slice()), (0, 0))
+    check_eq(
+        answer(encoded(
+            heap,
+            [3, 2, 1, 3],
+            &[[3, 1, 0, 0, 0], [1, 0, 1, 0, 0], [7, 2, 0, 2, 0]],
+        )?.as_slice()),
+        (0, 0),
+    )
 }
 
 #[test]

@@ -23,7 +23,7 @@ use Rattle.theory.proofs.Members.{any-of}
 use Rattle.theory.proofs.Places.{nth-in}
 use Rattle.theory.proofs.Forms.{inclusion-names, spoils-is, endangers-is, has-unsafe-is}
 
-same-expression : (e f : Expression) → Decides (sameExpression e f) (e ≡ f)
+pub same-expression : (e f : Expression) → Decides (sameExpression e f) (e ≡ f)
 same-expression (plain p) (plain q) = decides-like (eqb p q) (ap plain) (λ h. cc) (decides-eqb p q)
 same-expression (plain p) (inverse q) = (λ h. absurd (both-ways _ refl h), λ h. cc)
 same-expression (inverse p) (plain q) = (λ h. absurd (both-ways _ refl h), λ h. cc)
@@ -75,7 +75,7 @@ module _ (t : Table) (declared : Declared t) where
       (λ p. subst (λ x. Included t x f) (at-node t e h) (subst (λ y. Included t (expressionAt t (nodeOf t e)) y) (at-node t f k) (from-leads t p)))
       (to-leads t declared) (reach-computes (inclusionGraph t) (nodeOf t e) (nodeOf t f) (node-below t e h))
 
-  transitive-declared : (p : ℕ) → transitive p ∈ t .axioms → p < t .roles
+  pub transitive-declared : (p : ℕ) → transitive p ∈ t .axioms → p < t .roles
   transitive-declared p m = omega (arith, ltb-true p (t .roles) (declared (transitive p) m))
 
   reaches-back : (s : ℕ) → s < t .roles → (e : Expression) → Included t e (plain s) → transitive (nameOf e) ∈ t .axioms → spoils t s (transitive (nameOf e)) ≡ true
@@ -105,7 +105,7 @@ module _ (t : Table) (declared : Declared t) where
   filled-declared s q c m =
       let (here, _) = and-parts (ltb s (t .roles)) (ltb q (t .concepts) && ltb c (t .concepts)) (declared (filler s q c) m) in omega (arith, ltb-true s (t .roles) here)
 
-  exists-declared : (p r c : ℕ) → exists p r c ∈ t .axioms → r < t .roles
+  pub exists-declared : (p r c : ℕ) → exists p r c ∈ t .axioms → r < t .roles
   exists-declared p r c m =
       let (_, rest) = and-parts (ltb p (t .concepts)) (ltb r (t .roles) && ltb c (t .concepts)) (declared (exists p r c) m) in
       let (here, _) = and-parts (ltb r (t .roles)) (ltb c (t .concepts)) rest in omega (arith, ltb-true r (t .roles) here)

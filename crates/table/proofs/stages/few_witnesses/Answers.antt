@@ -24,7 +24,7 @@ loop-k-again c =
     let at = nth-mapped axiomIn (c .args .axioms .now) (c .loop-k .k) (c .index-axioms-k .result) (c .loop-k-test .taken) (c .index-axioms-k .is) in
     elim (c .if-asks-witness .came) [
       | then-asks-witness·else-count-eq32 w ↦
-          (w .count-is ∙ counted l (c .loop-k .k) (c .loop-k .count) a at (c .loop-k .inv .0) (sym (w .if-asks-witness .ensures tt)), omega (arith, w .count-is, w .if-count-eq32 .left), below-more _ _ (c .loop-k .inv .2) (not-yet l (c .loop-k .k) (c .loop-k .count) a at (c .loop-k .inv .0) (w .if-count-eq32 .left)))
+          (w .count-is ∙ counted (hasForm 8) l (c .loop-k .k) (c .loop-k .count) (c .loop-k .inv .0) a at (sym (w .if-asks-witness .ensures tt)), omega (arith, w .count-is, w .if-count-eq32 .left), below-more _ _ (c .loop-k .inv .2) (not-yet l (c .loop-k .k) (c .loop-k .count) a at (c .loop-k .inv .0) (w .if-count-eq32 .left)))
       | else-asks-witness w ↦
-          (w .count-is ∙ passed-over l (c .loop-k .k) (c .loop-k .count) a at (c .loop-k .inv .0) (sym (w .if-asks-witness .ensures tt)), omega (arith, w .count-is), below-more _ _ (c .loop-k .inv .2) (no-witness l (c .loop-k .k) (c .loop-k .count) a at (c .loop-k .inv .0) (sym (w .if-asks-witness .ensures tt))))
+          (w .count-is ∙ passed-over (hasForm 8) l (c .loop-k .k) (c .loop-k .count) (c .loop-k .inv .0) a at (sym (w .if-asks-witness .ensures tt)), omega (arith, w .count-is), below-more _ _ (c .loop-k .inv .2) (no-witness l (c .loop-k .k) (c .loop-k .count) a at (c .loop-k .inv .0) (sym (w .if-asks-witness .ensures tt))))
     ]
