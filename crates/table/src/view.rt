@@ -47,10 +47,11 @@ impl Checked {
         ensures individuals { λ r. ⌜ r .individuals ≡ meaning (now (self .entry)) .individuals ⌝ }
         ensures axioms { λ r. ⌜ r .axioms ≡ length (meaning (now (self .entry)) .axioms) ⌝ }
     {
-        let axioms = self.stated().len() as u16;
         Sizes {
-            axioms,
-            ..self.sizes
+            concepts: self.sizes.concepts,
+            roles: self.sizes.roles,
+            individuals: self.sizes.individuals,
+            axioms: self.stated().len() as u16,
         }
     }
 
@@ -59,11 +60,7 @@ impl Checked {
         ensures { λ r. ⌜ mapped axiomIn r ≡ nth (meaning (now (self .entry)) .axioms) k ⌝ }
     {
         let axioms = self.stated();
-        if k < axioms.len() {
-            Some(axioms[k])
-        } else {
-            None
-        }
+        if k < axioms.len() { Some(axioms[k]) } else { None }
     }
 
     /// Whether the one role expression is included in the other: an undeclared one only in itself.
