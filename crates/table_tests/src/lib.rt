@@ -3,3 +3,5 @@
 mod bytes;
 #[cfg(test)]
 mod refusals;
+#[cfg(test)]
+mod roles;
