@@ -52,7 +52,7 @@ fn largest(of: &[u8; MOST], n: usize) -> u8
 }
 
 /// The most nodes on one path of marked nodes, 0 if none is marked.
-pub fn height<G: Graph>(g: &G, marked: &[bool; MOST]) -> u8
+pub(crate) fn height<G: Graph>(g: &G, marked: &[bool; MOST]) -> u8
     requires { ⌜ (DirectedCycle (G·Graph .digraph (now g)) → ⊥) ⌝ }
     ensures { λ r. ⌜ IsHeight (G·Graph .digraph (now (g .entry))) (marks (now (marked .entry))) r ⌝ }
 {

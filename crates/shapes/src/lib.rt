@@ -1,6 +1,7 @@
 // The shape of a graph, and the most marked nodes on one of its paths.
-pub mod height;
+mod height;
 pub mod laws;
 pub mod rows;
 pub mod shape;
-pub mod views;
+pub mod survey;
+mod views;

@@ -1,11 +1,12 @@
 ghost use mathlib.Core.Path.{_≡_};
 ghost use mathlib.Core.Bool.{_||_};
-ghost use Prim.Native.Nat.{ℕ, _<_, _≤_};
+ghost use Prim.Native.Nat.{ℕ, _+_, _<_, _≤_};
 ghost use lib.Dec.{eqb};
 ghost use Rattle.graph.specs.Digraph.{marks};
 ghost use Rattle.shapes.specs.Views.{tabled, edgeless, with-edge};
 use graph::graph::Graph;
 use graph::graph::MOST;
+use names::Term;
 
 /// A graph as a row for each node, with a mark for each node to which an edge leads.
 #[derive(Drop)]
@@ -24,26 +25,21 @@ fn mark(row: &mut [bool; MOST], to: usize)
 }
 
 impl Rows {
-    /// Nodes without edges.
-    pub fn new(count: usize) -> Rows
-        requires { ⌜ count ≤ 48 ⌝ }
-        ensures graph { λ r. ⌜ tabled (r .rows) (r .count) ≡ edgeless count ⌝ }
-        ensures count { λ r. ⌜ r .count ≡ count ⌝ }
+    /// The nodes up to a last one, without edges.
+    pub fn up_to(last: Term) -> Rows
+        ensures { λ r. ⌜ tabled (r .rows) (r .count) ≡ edgeless (last .number + 1) ⌝ }
     {
         Rows {
             rows: [[false; MOST]; MOST],
-            count,
+            count: last.number as usize + 1,
         }
     }
 
     /// Draws an edge.
-    pub fn draw(&mut self, from: usize, to: usize)
-        requires from { ⌜ from < now self .count ⌝ }
-        requires to { ⌜ to < now self .count ⌝ }
-        ensures graph { λ _. ⌜ tabled (now (self .exit) .rows) (now (self .exit) .count) ≡ with-edge (tabled (now (self .entry) .rows) (now (self .entry) .count)) from to ⌝ }
-        ensures count { λ _. ⌜ now (self .exit) .count ≡ now (self .entry) .count ⌝ }
+    pub fn draw(&mut self, from: Term, to: Term)
+        ensures { λ _. ⌜ tabled (now (self .exit) .rows) (now (self .exit) .count) ≡ with-edge (tabled (now (self .entry) .rows) (now (self .entry) .count)) (from .number) (to .number) ⌝ }
     {
-        mark(&mut self.rows[from], to);
+        mark(&mut self.rows[from.number as usize], to.number as usize);
     }
 }
 

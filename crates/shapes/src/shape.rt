@@ -18,7 +18,7 @@ pub enum Shape {
 }
 
 /// Whether a path of one or more edges leads from the node back to it.
-pub fn turns<G: Graph>(g: &G, a: usize) -> bool
+fn turns<G: Graph>(g: &G, a: usize) -> bool
     requires { ⌜ a < G·Graph .digraph (now g) .nodes ⌝ }
     ensures { λ r. ⌜ Decides r (Turns (G·Graph .digraph (now (g .entry))) a) ⌝ }
 {
@@ -31,7 +31,7 @@ pub fn turns<G: Graph>(g: &G, a: usize) -> bool
 }
 
 /// Whether there is a directed cycle.
-pub fn cyclic<G: Graph>(g: &G) -> bool
+fn cyclic<G: Graph>(g: &G) -> bool
     ensures { λ r. ⌜ Decides r (DirectedCycle (G·Graph .digraph (now (g .entry)))) ⌝ }
 {
     for a in 0..g.nodes() {
@@ -64,7 +64,7 @@ fn rejoined<G: Graph>(g: &G, a: usize) -> bool
 }
 
 /// Whether a graph with no directed cycle has an undirected one.
-pub fn ringed<G: Graph>(g: &G) -> bool
+fn ringed<G: Graph>(g: &G) -> bool
     requires { ⌜ (DirectedCycle (G·Graph .digraph (now g)) → ⊥) ⌝ }
     ensures { λ r. ⌜ Decides r (UndirectedCycle (G·Graph .digraph (now (g .entry)))) ⌝ }
 {
@@ -77,7 +77,7 @@ pub fn ringed<G: Graph>(g: &G) -> bool
 }
 
 /// The shape of a graph: cyclic with a directed cycle, else acyclic with an undirected one, else a forest.
-pub fn classify<G: Graph>(g: &G) -> Shape
+pub(crate) fn classify<G: Graph>(g: &G) -> Shape
     ensures { λ r. ⌜ Shaped (G·Graph .digraph (now (g .entry))) r ⌝ }
 {
     if cyclic(g) {

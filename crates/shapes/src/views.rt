@@ -4,11 +4,11 @@ use graph::graph::Graph;
 
 /// A graph with each edge run both ways.
 #[derive(Drop)]
-pub struct Undirected<'a, G: Graph> {
-    pub graph: &'a G,
+pub(crate) struct Undirected<'a, G: Graph> {
+    pub(crate) graph: &'a G,
 }
 
-pub impl<'a, G: Graph> Graph for Undirected<'a, G> as UndirectedGraph {
+pub(crate) impl<'a, G: Graph> Graph for Undirected<'a, G> as UndirectedGraph {
     ghost digraph = { λ u. undirected (G·Graph .digraph (now (u .graph))) };
 
     fn nodes(&self) -> usize {
@@ -22,13 +22,13 @@ pub impl<'a, G: Graph> Graph for Undirected<'a, G> as UndirectedGraph {
 
 /// A graph without what runs between two of its nodes.
 #[derive(Drop)]
-pub struct Without<'a, G: Graph> {
-    pub graph: &'a G,
-    pub one: usize,
-    pub other: usize,
+pub(crate) struct Without<'a, G: Graph> {
+    pub(crate) graph: &'a G,
+    pub(crate) one: usize,
+    pub(crate) other: usize,
 }
 
-pub impl<'a, G: Graph> Graph for Without<'a, G> as WithoutGraph {
+pub(crate) impl<'a, G: Graph> Graph for Without<'a, G> as WithoutGraph {
     ghost digraph = { λ u. without (G·Graph .digraph (now (u .graph))) (u .one) (u .other) };
 
     fn nodes(&self) -> usize {

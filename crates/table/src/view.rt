@@ -60,7 +60,11 @@ impl Checked {
         ensures { λ r. ⌜ mapped axiomIn r ≡ nth (meaning (now (self .entry)) .axioms) k ⌝ }
     {
         let axioms = self.stated();
-        if k < axioms.len() { Some(axioms[k]) } else { None }
+        if k < axioms.len() {
+            Some(axioms[k])
+        } else {
+            None
+        }
     }
 
     /// Whether the one role expression is included in the other: an undeclared one only in itself.

@@ -9,10 +9,18 @@ use table::check::check as checked;
 use table::expression::Expression;
 
 /// How many roles are simple, how many axioms ask for a witness, and how many of those are unsafe; nothing if the table is refused.
-fn counts(heap: Global, sizes: [u16; 4], rows: &[Row]) -> Result<Option<(usize, usize, usize)>, AllocError> {
+fn counts(
+    heap: Global,
+    sizes: [u16; 4],
+    rows: &[Row],
+) -> Result<Option<(usize, usize, usize)>, AllocError> {
     let bytes = encoded(heap, sizes, rows)?;
     match checked(bytes.as_slice()) {
-        Ok(table) => Ok(Some((table.simple_roles(), table.witness_axioms(), table.unsafe_axioms()))),
+        Ok(table) => Ok(Some((
+            table.simple_roles(),
+            table.witness_axioms(),
+            table.unsafe_axioms(),
+        ))),
         Err(_) => Ok(None),
     }
 }
@@ -43,31 +51,96 @@ fn witnesses_are_unsafe_by_what_includes_their_role(rt: LibcRuntime) -> Result<(
     let heap = rt.alloc();
     let witness = [8, 2, 0, 2, 0];
     // counted, as it is, by a larger role, by a larger role the other way round
-    check_eq(counts(heap, [3, 3, 1, 2], &[witness, [7, 2, 0, 2, 0]])?, Some((3, 1, 1)))?;
-    check_eq(counts(heap, [3, 3, 1, 3], &[witness, [7, 2, 1, 2, 0], [1, 0, 1, 0, 0]])?, Some((3, 1, 1)))?;
-    check_eq(counts(heap, [3, 3, 1, 3], &[witness, [7, 2, 1, 2, 0], [2, 0, 1, 0, 0]])?, Some((3, 1, 1)))?;
+    check_eq(
+        counts(heap, [3, 3, 1, 2], &[witness, [7, 2, 0, 2, 0]])?,
+        Some((3, 1, 1)),
+    )?;
+    check_eq(
+        counts(
+            heap,
+            [3, 3, 1, 3],
+            &[witness, [7, 2, 1, 2, 0], [1, 0, 1, 0, 0]],
+        )?,
+        Some((3, 1, 1)),
+    )?;
+    check_eq(
+        counts(
+            heap,
+            [3, 3, 1, 3],
+            &[witness, [7, 2, 1, 2, 0], [2, 0, 1, 0, 0]],
+        )?,
+        Some((3, 1, 1)),
+    )?;
     // a smaller role does not count
-    check_eq(counts(heap, [3, 3, 1, 3], &[witness, [7, 2, 1, 2, 0], [1, 1, 0, 0, 0]])?, Some((3, 1, 0)))?;
+    check_eq(
+        counts(
+            heap,
+            [3, 3, 1, 3],
+            &[witness, [7, 2, 1, 2, 0], [1, 1, 0, 0, 0]],
+        )?,
+        Some((3, 1, 0)),
+    )?;
     // a filler counts where the inverse is included, and not at ⊤
-    check_eq(counts(heap, [3, 3, 1, 2], &[witness, [6, 0, 2, 2, 0]])?, Some((3, 1, 0)))?;
-    check_eq(counts(heap, [3, 3, 1, 3], &[witness, [6, 1, 2, 2, 0], [2, 0, 1, 0, 0]])?, Some((3, 1, 1)))?;
-    check_eq(counts(heap, [3, 3, 1, 3], &[witness, [6, 1, 0, 2, 0], [2, 0, 1, 0, 0]])?, Some((3, 1, 0)))?;
+    check_eq(
+        counts(heap, [3, 3, 1, 2], &[witness, [6, 0, 2, 2, 0]])?,
+        Some((3, 1, 0)),
+    )?;
+    check_eq(
+        counts(
+            heap,
+            [3, 3, 1, 3],
+            &[witness, [6, 1, 2, 2, 0], [2, 0, 1, 0, 0]],
+        )?,
+        Some((3, 1, 1)),
+    )?;
+    check_eq(
+        counts(
+            heap,
+            [3, 3, 1, 3],
+            &[witness, [6, 1, 0, 2, 0], [2, 0, 1, 0, 0]],
+        )?,
+        Some((3, 1, 0)),
+    )?;
     // 1 ⊑ 2 includes 1⁻ in 2⁻: so 0 ⊑ 1⁻ ⊑ 2⁻
-    check_eq(counts(heap, [3, 3, 1, 4], &[witness, [6, 2, 2, 2, 0], [2, 0, 1, 0, 0], [1, 1, 2, 0, 0]])?, Some((3, 1, 1)))
+    check_eq(
+        counts(
+            heap,
+            [3, 3, 1, 4],
+            &[witness, [6, 2, 2, 2, 0], [2, 0, 1, 0, 0], [1, 1, 2, 0, 0]],
+        )?,
+        Some((3, 1, 1)),
+    )
 }
 
 #[test]
 fn simple_roles_are_counted(rt: LibcRuntime) -> Result<(), Fail> {
     let heap = rt.alloc();
     check_eq(counts(heap, [2, 7, 1, 0], &[])?, Some((7, 0, 0)))?;
-    check_eq(counts(heap, [2, 3, 1, 1], &[[3, 1, 0, 0, 0]])?, Some((2, 0, 0)))?;
-    check_eq(counts(heap, [2, 3, 1, 2], &[[3, 1, 0, 0, 0], [2, 1, 2, 0, 0]])?, Some((1, 0, 0)))?;
-    check_eq(counts(heap, [2, 3, 1, 3], &[[3, 1, 0, 0, 0], [2, 1, 2, 0, 0], [1, 2, 0, 0, 0]])?, Some((0, 0, 0)))
+    check_eq(
+        counts(heap, [2, 3, 1, 1], &[[3, 1, 0, 0, 0]])?,
+        Some((2, 0, 0)),
+    )?;
+    check_eq(
+        counts(heap, [2, 3, 1, 2], &[[3, 1, 0, 0, 0], [2, 1, 2, 0, 0]])?,
+        Some((1, 0, 0)),
+    )?;
+    check_eq(
+        counts(
+            heap,
+            [2, 3, 1, 3],
+            &[[3, 1, 0, 0, 0], [2, 1, 2, 0, 0], [1, 2, 0, 0, 0]],
+        )?,
+        Some((0, 0, 0)),
+    )
 }
 
 #[test]
 fn inclusions_hold_of_inverses_too(rt: LibcRuntime) -> Result<(), Fail> {
-    let bytes = encoded(rt.alloc(), [2, 3, 1, 2], &[[1, 0, 1, 0, 0], [2, 1, 2, 0, 0]])?;
+    let bytes = encoded(
+        rt.alloc(),
+        [2, 3, 1, 2],
+        &[[1, 0, 1, 0, 0], [2, 1, 2, 0, 0]],
+    )?;
     match checked(bytes.as_slice()) {
         Ok(table) => {
             let first = Role { number: 0 };
@@ -78,7 +151,10 @@ fn inclusions_hold_of_inverses_too(rt: LibcRuntime) -> Result<(), Fail> {
             check(table.includes(Expression::Inverse(first), Expression::Inverse(second)))?;
             check(!table.includes(Expression::Plain(first), Expression::Plain(third)))?;
             check(!table.includes(Expression::Plain(second), Expression::Plain(first)))?;
-            check(table.includes(Expression::Plain(Role { number: 5 }), Expression::Plain(Role { number: 5 })))
+            check(table.includes(
+                Expression::Plain(Role { number: 5 }),
+                Expression::Plain(Role { number: 5 }),
+            ))
         }
         Err(_) => Err(Fail::new("refused")),
     }

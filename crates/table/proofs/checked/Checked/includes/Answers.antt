@@ -28,6 +28,6 @@ returns-else-name-roles c =
     (undeclared-includes t (sound-declared t (c .args .self .now .sound)) e f
     (λ h k.
     elim (c .else-name-roles .came) [
-      else-name-roles·by·then-name-roles·else-name-roles-2 w ↦ omega (arith, w .name-then-name-roles .ensures, w .if-name-roles-2 .left)
+      | else-name-roles·by·then-name-roles·else-name-roles-2 w ↦ omega (arith, w .name-then-name-roles .ensures, w .if-name-roles-2 .left)
       | else-name-roles·by·else-name-roles w ↦ omega (arith, w .if-name-roles .left)
     ]))

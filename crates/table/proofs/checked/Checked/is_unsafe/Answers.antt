@@ -21,7 +21,7 @@ returns-in-Some c =
     let t = meaning (c .args .self .now) in
     let a = axiomIn (c .in-Some .axiom) in
     let same : c .has-unsafe .result ≡ isUnsafe t (c .args .k) =
-        c .has-unsafe .ensures ∙ ap (λ l. hasUnsafe (tableOf (c .args .self .now .sizes) l) a) (c .stated .ensures .value) ∙ ap (unsafeIn t) (c .in-Some .ensures tt) in
+    c .has-unsafe .ensures ∙ ap (λ l. hasUnsafe (tableOf (c .args .self .now .sizes) l) a) (c .stated .ensures .value) ∙ ap (unsafeIn t) (c .in-Some .ensures tt) in
     record {
       decides = subst (λ b. Decides b (Unsafe t (c .args .k))) (sym same) (unsafe-decides t (sound-declared t (c .args .self .now .sound)) (c .args .k));
       computes = same;

@@ -17,7 +17,7 @@ loop-number-again c =
     let at = up-at n k (c .loop-number-test .taken) in
     let is = sym (c .is-simple .ensures ∙ ap (λ l. isSimple (tableOf (c .args .self .now .sizes) l) k) (c .stated .ensures .value)) in
     elim (c .if-is-simple .came) [
-      then-is-simple w ↦ (w .count-is ∙ counted p (upFrom 0 n) k (c .loop-number .count) (c .loop-number .inv .0) k at (is ∙ w .if-is-simple .taken), omega (arith, w .count-is))
+      | then-is-simple w ↦ (w .count-is ∙ counted p (upFrom 0 n) k (c .loop-number .count) (c .loop-number .inv .0) k at (is ∙ w .if-is-simple .taken), omega (arith, w .count-is))
       | else-is-simple w ↦ (w .count-is ∙ passed-over p (upFrom 0 n) k (c .loop-number .count) (c .loop-number .inv .0) k at (is ∙ w .if-is-simple .left), omega (arith, w .count-is))
     ]
 

@@ -19,7 +19,7 @@ loop-k-again c =
     let at = up-at n k (c .loop-k-test .taken) in
     let is = sym (c .is-unsafe .ensures .computes) in
     elim (c .if-is-unsafe .came) [
-      then-is-unsafe w ↦ (w .count-is ∙ counted p (upFrom 0 n) k (c .loop-k .count) (c .loop-k .inv .0) k at (is ∙ w .if-is-unsafe .taken), omega (arith, w .count-is))
+      | then-is-unsafe w ↦ (w .count-is ∙ counted p (upFrom 0 n) k (c .loop-k .count) (c .loop-k .inv .0) k at (is ∙ w .if-is-unsafe .taken), omega (arith, w .count-is))
       | else-is-unsafe w ↦ (w .count-is ∙ passed-over p (upFrom 0 n) k (c .loop-k .count) (c .loop-k .inv .0) k at (is ∙ w .if-is-unsafe .left), omega (arith, w .count-is))
     ]
 

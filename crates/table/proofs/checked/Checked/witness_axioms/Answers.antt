@@ -17,7 +17,7 @@ loop-axiom-again c =
     let at = nth-mapped axiomIn (c .stated-axioms .result .now) (c .loop-axiom .axiom-index) (c .axiom-item .result) (c .loop-axiom-test .taken) (c .axiom-item .is) in
     let is = sym (c .asks-witness .ensures) in
     elim (c .if-asks-witness .came) [
-      then-asks-witness w ↦ (w .count-is ∙ counted (hasForm 8) l (c .loop-axiom .axiom-index) (c .loop-axiom .count) (c .loop-axiom .inv .0) a at (is ∙ w .if-asks-witness .taken), omega (arith, w .count-is))
+      | then-asks-witness w ↦ (w .count-is ∙ counted (hasForm 8) l (c .loop-axiom .axiom-index) (c .loop-axiom .count) (c .loop-axiom .inv .0) a at (is ∙ w .if-asks-witness .taken), omega (arith, w .count-is))
       | else-asks-witness w ↦ (w .count-is ∙ passed-over (hasForm 8) l (c .loop-axiom .axiom-index) (c .loop-axiom .count) (c .loop-axiom .inv .0) a at (is ∙ w .if-asks-witness .left), omega (arith, w .count-is))
     ]
 
