@@ -1,0 +1,6 @@
+pub mod Same
+pub mod Held
+pub mod Adding
+pub mod Joining
+pub mod Counting
+pub mod Telling

@@ -1,0 +1,4 @@
+pub mod Facts
+pub mod Blanks
+pub mod Entries
+pub mod Laws
