@@ -152,3 +152,8 @@ count-more p (b ∷ l) (suc i) a e = ap (λ k. countOf p (take k (b ∷ l))) (ad
     go true false m n h = ap suc h
     go false true m n h = h
     go false false m n h = h
+
+pub nth-past : {A : Type 0} (l : List A) (k : ℕ) → length l ≤ k → nth l k ≡ None
+nth-past [] k h = refl
+nth-past (a ∷ l) zero h = absurd (omega arith)
+nth-past (a ∷ l) (suc k) h = nth-past l k (le-of-suc-le-suc h)
