@@ -2,34 +2,36 @@ use crate::bytes::LODGE;
 use crate::bytes::Row;
 use crate::bytes::encoded;
 use names::Role;
-use std::alloc::AllocError;
 use std::alloc::Global;
 use std::test::*;
 use table::check::check as checked;
 use table::expression::Expression;
 
-/// How many roles are simple, how many axioms ask for a witness, and how many of those are unsafe; nothing if the table is refused.
+/// Checks how many roles are simple, how many axioms ask for a witness, and how many of those are unsafe.
 fn counts(
     heap: Global,
     sizes: [u16; 4],
     rows: &[Row],
-) -> Result<Option<(usize, usize, usize)>, AllocError> {
+    due: (usize, usize, usize),
+) -> Result<(), Fail> {
     let bytes = encoded(heap, sizes, rows)?;
     match checked(bytes.as_slice()) {
-        Ok(table) => Ok(Some((
-            table.simple_roles(),
-            table.witness_axioms(),
-            table.unsafe_axioms(),
-        ))),
-        Err(_) => Ok(None),
+        Ok(table) => check_eq(
+            (
+                table.simple_roles(),
+                table.witness_axioms(),
+                table.unsafe_axioms(),
+            ),
+            due,
+        ),
+        Err(_) => Err(Fail::new("refused")),
     }
 }
 
 #[test]
 fn the_lodge_table_has_one_unsafe_axiom(rt: LibcRuntime) -> Result<(), Fail> {
-    let heap = rt.alloc();
-    check_eq(counts(heap, [7, 2, 2, 7], &LODGE)?, Some((2, 1, 1)))?;
-    let bytes = encoded(heap, [7, 2, 2, 7], &LODGE)?;
+    counts(rt.alloc(), [7, 2, 2, 7], &LODGE, (2, 1, 1))?;
+    let bytes = encoded(rt.alloc(), [7, 2, 2, 7], &LODGE)?;
     match checked(bytes.as_slice()) {
         Ok(table) => {
             check(table.is_unsafe(1))?;
@@ -43,94 +45,48 @@ fn the_lodge_table_has_one_unsafe_axiom(rt: LibcRuntime) -> Result<(), Fail> {
 #[test]
 fn without_its_third_record_the_lodge_table_is_safe(rt: LibcRuntime) -> Result<(), Fail> {
     let rows = [LODGE[0], LODGE[1], LODGE[3], LODGE[4], LODGE[5], LODGE[6]];
-    check_eq(counts(rt.alloc(), [7, 2, 2, 6], &rows)?, Some((2, 1, 0)))
+    counts(rt.alloc(), [7, 2, 2, 6], &rows, (2, 1, 0))
 }
 
 #[test]
 fn witnesses_are_unsafe_by_what_includes_their_role(rt: LibcRuntime) -> Result<(), Fail> {
     let heap = rt.alloc();
+    let sizes = [3, 3, 1, 3];
     let witness = [8, 2, 0, 2, 0];
+    let counted = [7, 2, 1, 2, 0];
+    let inverse = [2, 0, 1, 0, 0];
     // counted, as it is, by a larger role, by a larger role the other way round
-    check_eq(
-        counts(heap, [3, 3, 1, 2], &[witness, [7, 2, 0, 2, 0]])?,
-        Some((3, 1, 1)),
-    )?;
-    check_eq(
-        counts(
-            heap,
-            [3, 3, 1, 3],
-            &[witness, [7, 2, 1, 2, 0], [1, 0, 1, 0, 0]],
-        )?,
-        Some((3, 1, 1)),
-    )?;
-    check_eq(
-        counts(
-            heap,
-            [3, 3, 1, 3],
-            &[witness, [7, 2, 1, 2, 0], [2, 0, 1, 0, 0]],
-        )?,
-        Some((3, 1, 1)),
-    )?;
+    counts(heap, [3, 3, 1, 2], &[witness, [7, 2, 0, 2, 0]], (3, 1, 1))?;
+    counts(heap, sizes, &[witness, counted, [1, 0, 1, 0, 0]], (3, 1, 1))?;
+    counts(heap, sizes, &[witness, counted, inverse], (3, 1, 1))?;
     // a smaller role does not count
-    check_eq(
-        counts(
-            heap,
-            [3, 3, 1, 3],
-            &[witness, [7, 2, 1, 2, 0], [1, 1, 0, 0, 0]],
-        )?,
-        Some((3, 1, 0)),
-    )?;
+    counts(heap, sizes, &[witness, counted, [1, 1, 0, 0, 0]], (3, 1, 0))?;
     // a filler counts where the inverse is included, and not at ⊤
-    check_eq(
-        counts(heap, [3, 3, 1, 2], &[witness, [6, 0, 2, 2, 0]])?,
-        Some((3, 1, 0)),
-    )?;
-    check_eq(
-        counts(
-            heap,
-            [3, 3, 1, 3],
-            &[witness, [6, 1, 2, 2, 0], [2, 0, 1, 0, 0]],
-        )?,
-        Some((3, 1, 1)),
-    )?;
-    check_eq(
-        counts(
-            heap,
-            [3, 3, 1, 3],
-            &[witness, [6, 1, 0, 2, 0], [2, 0, 1, 0, 0]],
-        )?,
-        Some((3, 1, 0)),
-    )?;
+    counts(heap, [3, 3, 1, 2], &[witness, [6, 0, 2, 2, 0]], (3, 1, 0))?;
+    counts(heap, sizes, &[witness, [6, 1, 2, 2, 0], inverse], (3, 1, 1))?;
+    counts(heap, sizes, &[witness, [6, 1, 0, 2, 0], inverse], (3, 1, 0))?;
     // 1 ⊑ 2 includes 1⁻ in 2⁻: so 0 ⊑ 1⁻ ⊑ 2⁻
-    check_eq(
-        counts(
-            heap,
-            [3, 3, 1, 4],
-            &[witness, [6, 2, 2, 2, 0], [2, 0, 1, 0, 0], [1, 1, 2, 0, 0]],
-        )?,
-        Some((3, 1, 1)),
+    counts(
+        heap,
+        [3, 3, 1, 4],
+        &[witness, [6, 2, 2, 2, 0], inverse, [1, 1, 2, 0, 0]],
+        (3, 1, 1),
     )
 }
 
 #[test]
 fn simple_roles_are_counted(rt: LibcRuntime) -> Result<(), Fail> {
     let heap = rt.alloc();
-    check_eq(counts(heap, [2, 7, 1, 0], &[])?, Some((7, 0, 0)))?;
-    check_eq(
-        counts(heap, [2, 3, 1, 1], &[[3, 1, 0, 0, 0]])?,
-        Some((2, 0, 0)),
-    )?;
-    check_eq(
-        counts(heap, [2, 3, 1, 2], &[[3, 1, 0, 0, 0], [2, 1, 2, 0, 0]])?,
-        Some((1, 0, 0)),
-    )?;
-    check_eq(
-        counts(
-            heap,
-            [2, 3, 1, 3],
-            &[[3, 1, 0, 0, 0], [2, 1, 2, 0, 0], [1, 2, 0, 0, 0]],
-        )?,
-        Some((0, 0, 0)),
+    let transitive = [3, 1, 0, 0, 0];
+    let turned = [2, 1, 2, 0, 0];
+    counts(heap, [2, 7, 1, 0], &[], (7, 0, 0))?;
+    counts(heap, [2, 3, 1, 1], &[transitive], (2, 0, 0))?;
+    counts(heap, [2, 3, 1, 2], &[transitive, turned], (1, 0, 0))?;
+    counts(
+        heap,
+        [2, 3, 1, 3],
+        &[transitive, turned, [1, 2, 0, 0, 0]],
+        (0, 0, 0),
     )
 }
 
