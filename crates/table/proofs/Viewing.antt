@@ -1,29 +1,33 @@
--- What is known of a table that is well-formed.
+-- What is known of a well-formed table.
 use Prim.Native.Nat.{ℕ, _<_, _≤_}
 use native.Mathlib.Omega.{arith}
 use mathlib.Core.Path.{_≡_, refl, sym, ap, subst, _∙_}
 use mathlib.Core.Bool.{true}
 use mathlib.Core.Logic.{_⊎_, inl, inr, ⊎-elim}
 use mathlib.Core.List.{List, map}
-use lib.ListN.{length, take, length-map}
-use lib.Seq.{length-take-le}
+use denote.Ref.{RefT, now}
+use lib.ListN.{length-map}
+use Rattle.std.specs.Finite.{nth}
+use Rattle.std.specs.Options.{mapped}
+use Rattle.std.specs.Places.{Item}
+use Rattle.std.specs.declared.option.Option.{Option}
+use Rattle.std.specs.declared.option.Option.the-variants.{Some, None}
+use Rattle.std.proofs.shelf.Maps.{nth-past}
+use Rattle.theory.proofs.Places.{nth-mapped}
 use Rattle.std.specs.Orderings.{Decides}
 use Rattle.std.proofs.shelf.Ways.{decides-like}
 use Rattle.theory.specs.Lists.{_∈_}
 use Rattle.theory.specs.Table.{Table, transitive}
 use Rattle.theory.specs.Roles.{Expression, plain, nameOf, Included, same, more, Simple, sameExpression}
 use Rattle.theory.specs.WellFormed.{Declared, wellFormed}
-use Rattle.layout.specs.declared.axiom.Axiom.{Axiom}
-use Rattle.layout.specs.declared.sizes.Sizes.{Sizes}
-use Rattle.layout.specs.Meaning.{axiomIn}
-use Rattle.theory.proofs.Accepting.{sizes-within, well-formed}
+use Rattle.theory.proofs.Accepting.{well-formed}
 use Rattle.theory.proofs.Deciding.{same-expression, transitive-declared}
 use Rattle.theory.proofs.Forms.{inclusion-names}
 
-pub stated-length : (z : Sizes) (xs : List Axiom) → length xs ≡ 64 → length (map axiomIn (take (z .axioms) xs)) ≡ z .axioms
-stated-length z xs e =
-    let most = sizes-within (z .concepts) (z .roles) (z .individuals) (z .axioms) (z .limits) .5 in
-    length-map (take (z .axioms) xs) axiomIn ∙ length-take-le (z .axioms) xs (omega arith)
+-- the element that is found at a place
+pub picked : {A B : Type 0} (f : A → B) (xs : List A) (k : ℕ) (r : Option (RefT A)) → Item xs k k r → mapped f (mapped now r) ≡ nth (map f xs) k
+picked f xs k None i = sym (nth-past (map f xs) k (simp length-map (i .3)))
+picked f xs k (Some x) i = sym (nth-mapped f xs k (x .now) (i .3 .0) (i .1))
 
 pub sound-declared : (t : Table) → wellFormed t ≡ true → Declared t
 sound-declared t e = well-formed t .0 e .declared

@@ -59,12 +59,7 @@ impl Checked {
     pub fn axiom(&self, k: usize) -> Option<Axiom>
         ensures { λ r. ⌜ mapped axiomIn r ≡ nth (meaning (now (self .entry)) .axioms) k ⌝ }
     {
-        let axioms = self.stated();
-        if k < axioms.len() {
-            Some(axioms[k])
-        } else {
-            None
-        }
+        self.stated().get(k).copied()
     }
 
     /// Whether the one role expression is included in the other: an undeclared one only in itself.
@@ -105,13 +100,13 @@ impl Checked {
     pub fn simple_roles(&self) -> usize
         ensures { λ r. ⌜ r ≡ countOf (isSimple (meaning (now (self .entry)))) (upFrom 0 (meaning (now (self .entry)) .roles)) ⌝ }
     {
-        let mut count = 0;
+        let mut simple = 0;
         for number in 0..self.sizes.roles as u8 {
             if is_simple(self.sizes, self.stated(), Role { number }) {
-                count += 1;
+                simple += 1;
             }
         }
-        count
+        simple
     }
 
     /// How many of its axioms ask for a witness.
@@ -119,13 +114,13 @@ impl Checked {
         ensures { λ r. ⌜ r ≡ countOf (hasForm 8) (meaning (now (self .entry)) .axioms) ⌝ }
     {
         let axioms = self.stated();
-        let mut count = 0;
+        let mut witnesses = 0;
         for axiom in axioms {
             if axiom.asks_witness() {
-                count += 1;
+                witnesses += 1;
             }
         }
-        count
+        witnesses
     }
 
     /// How many of its axioms ask for a witness by an unsafe role.

@@ -17,11 +17,11 @@ loop-number-again c =
     let at = up-at n k (c .loop-number-test .taken) in
     let is = sym (c .is-simple .ensures ∙ ap (λ l. isSimple (tableOf (c .args .self .now .sizes) l) k) (c .stated .ensures .value)) in
     elim (c .if-is-simple .came) [
-      | then-is-simple w ↦ (w .count-is ∙ counted p (upFrom 0 n) k (c .loop-number .count) (c .loop-number .inv .0) k at (is ∙ w .if-is-simple .taken), omega (arith, w .count-is))
-      | else-is-simple w ↦ (w .count-is ∙ passed-over p (upFrom 0 n) k (c .loop-number .count) (c .loop-number .inv .0) k at (is ∙ w .if-is-simple .left), omega (arith, w .count-is))
+      | then-is-simple w ↦ (w .simple-is ∙ counted p (upFrom 0 n) k (c .loop-number .simple) (c .loop-number .inv .0) k at (is ∙ w .if-is-simple .taken), omega (arith, w .simple-is))
+      | else-is-simple w ↦ (w .simple-is ∙ passed-over p (upFrom 0 n) k (c .loop-number .simple) (c .loop-number .inv .0) k at (is ∙ w .if-is-simple .left), omega (arith, w .simple-is))
     ]
 
 pub returns : need.returns
 returns c =
     let n = c .args .self .now .sizes .roles in
-    counted-all (isSimple (meaning (c .args .self .now))) (upFrom 0 n) (c .loop-number .number) (c .loop-number .count) (c .loop-number .inv .0) (omega (arith, length-up 0 n))
+    counted-all (isSimple (meaning (c .args .self .now))) (upFrom 0 n) (c .loop-number .number) (c .loop-number .simple) (c .loop-number .inv .0) (omega (arith, length-up 0 n))

@@ -8,4 +8,4 @@ use Rattle.table.proofs.checked.Checked.simple_roles.Given as given
 
 abbrev pub Inv-loop-number : given.InvT-loop-number
 Inv-loop-number l =
-    (l .count ≡ countOf (isSimple (meaning (l .self))) (take (l .number) (upFrom 0 (l .self .sizes .roles)))) × (l .count ≤ l .number)
+    (l .simple ≡ countOf (isSimple (meaning (l .self))) (take (l .number) (upFrom 0 (l .self .sizes .roles)))) × (l .simple ≤ l .number)

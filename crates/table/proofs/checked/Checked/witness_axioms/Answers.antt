@@ -17,11 +17,11 @@ loop-axiom-again c =
     let at = nth-mapped axiomIn (c .stated-axioms .result .now) (c .loop-axiom .axiom-index) (c .axiom-item .result) (c .loop-axiom-test .taken) (c .axiom-item .is) in
     let is = sym (c .asks-witness .ensures) in
     elim (c .if-asks-witness .came) [
-      | then-asks-witness w ↦ (w .count-is ∙ counted (hasForm 8) l (c .loop-axiom .axiom-index) (c .loop-axiom .count) (c .loop-axiom .inv .0) a at (is ∙ w .if-asks-witness .taken), omega (arith, w .count-is))
-      | else-asks-witness w ↦ (w .count-is ∙ passed-over (hasForm 8) l (c .loop-axiom .axiom-index) (c .loop-axiom .count) (c .loop-axiom .inv .0) a at (is ∙ w .if-asks-witness .left), omega (arith, w .count-is))
+      | then-asks-witness w ↦ (w .witnesses-is ∙ counted (hasForm 8) l (c .loop-axiom .axiom-index) (c .loop-axiom .witnesses) (c .loop-axiom .inv .0) a at (is ∙ w .if-asks-witness .taken), omega (arith, w .witnesses-is))
+      | else-asks-witness w ↦ (w .witnesses-is ∙ passed-over (hasForm 8) l (c .loop-axiom .axiom-index) (c .loop-axiom .witnesses) (c .loop-axiom .inv .0) a at (is ∙ w .if-asks-witness .left), omega (arith, w .witnesses-is))
     ]
 
 pub returns : need.returns
 returns c =
-    counted-all (hasForm 8) (map axiomIn (c .stated-axioms .result .now)) (c .loop-axiom .axiom-index) (c .loop-axiom .count) (c .loop-axiom .inv .0) (simp length-map (c .loop-axiom-test .left))
+    counted-all (hasForm 8) (map axiomIn (c .stated-axioms .result .now)) (c .loop-axiom .axiom-index) (c .loop-axiom .witnesses) (c .loop-axiom .inv .0) (simp length-map (c .loop-axiom-test .left))
     ∙ ap (λ l. countOf (hasForm 8) (map axiomIn l)) (c .stated-axioms .ensures .value)

@@ -8,4 +8,4 @@ use Rattle.layout.specs.Meaning.{axiomIn}
 use Rattle.table.proofs.checked.Checked.witness_axioms.Given as given
 
 abbrev pub Inv-loop-axiom : given.InvT-loop-axiom
-Inv-loop-axiom l = (l .count ≡ countOf (hasForm 8) (take (l .axiom-index) (map axiomIn (l .axioms)))) × (l .count ≤ l .axiom-index)
+Inv-loop-axiom l = (l .witnesses ≡ countOf (hasForm 8) (take (l .axiom-index) (map axiomIn (l .axioms)))) × (l .witnesses ≤ l .axiom-index)
