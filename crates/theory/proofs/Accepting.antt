@@ -31,7 +31,7 @@ same-line k l =
 same-lines : (a b : Axiom) → Decides (sameLine (lineOf a) (lineOf b)) (a ≡ b)
 same-lines a b = decides-like _ (same-axiom a b) (ap lineOf) (same-line (lineOf a) (lineOf b))
 
-stands : (a : Axiom) (l : List Axiom) → Decides (anyOf (λ b. sameLine (lineOf a) (lineOf b)) l) (a ∈ l)
+pub stands : (a : Axiom) (l : List Axiom) → Decides (anyOf (λ b. sameLine (lineOf a) (lineOf b)) l) (a ∈ l)
 stands a l =
     decides-like _ (λ (b, m, q). Memᴰ·cast (same-lines a b .0 q) m) (λ m. (a, m, same-lines a a .1 refl))
     (any-of (λ b. sameLine (lineOf a) (lineOf b)) l)
