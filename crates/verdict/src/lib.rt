@@ -2,10 +2,12 @@
 mod edges;
 mod judged;
 mod judgement;
+mod laws;
 mod verdict;
 
 pub use crate::edges::read_edges;
 pub use crate::judged::Judged;
 pub use crate::judgement::Judgement;
 pub use crate::judgement::JudgementDisplay;
+pub use crate::laws::marked_verdicts;
 pub use crate::verdict::Verdict;
