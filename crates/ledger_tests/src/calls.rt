@@ -78,7 +78,7 @@ impl Answer {
     }
 
     /// Whether two answers are alike.
-    pub fn alike(self, other: Answer) -> bool {
+    pub(crate) fn alike(self, other: Answer) -> bool {
         self.kind() == other.kind() && self.carried() == other.carried()
     }
 
@@ -147,7 +147,7 @@ fn ask<L: Ledger>(ledger: &mut L, call: Call) -> Answer
 }
 
 /// Empties the ledger and follows the steps: the place of the first answer that is not the one due.
-pub fn first_wrong<L: Ledger>(ledger: &mut L, steps: &[Step]) -> Option<usize> {
+pub(crate) fn first_wrong<L: Ledger>(ledger: &mut L, steps: &[Step]) -> Option<usize> {
     ledger.empty();
     for (i, step) in steps.iter().enumerate() {
         if !ask(ledger, step.call).alike(step.due) {
@@ -224,7 +224,7 @@ impl Tally {
 }
 
 /// Empties the ledger, puts that many calls to it and tells what they answered.
-pub fn drive<L: Ledger>(ledger: &mut L, calls: u32, seed: u32) -> Tally {
+pub(crate) fn drive<L: Ledger>(ledger: &mut L, calls: u32, seed: u32) -> Tally {
     ledger.empty();
     let mut tally = Tally {
         kinds: [0; 10],

@@ -25,7 +25,7 @@ fn put(bytes: &mut Vec<u8>, word: u16) -> Result<(), AllocError> {
 }
 
 /// The bytes of a table that may break every rule.
-pub fn encoded(heap: Global, sizes: [u16; 4], rows: &[Row]) -> Result<Vec<u8>, AllocError> {
+pub(crate) fn encoded(heap: Global, sizes: [u16; 4], rows: &[Row]) -> Result<Vec<u8>, AllocError> {
     let mut bytes = Vec::new(heap);
     for size in sizes {
         put(&mut bytes, size)?;
@@ -43,7 +43,7 @@ pub fn encoded(heap: Global, sizes: [u16; 4], rows: &[Row]) -> Result<Vec<u8>, A
 }
 
 /// Number and place of the refusal, or two zeros.
-pub fn answer(bytes: &[u8]) -> (u8, u8) {
+pub(crate) fn answer(bytes: &[u8]) -> (u8, u8) {
     match check(bytes) {
         Ok(_) => (0, 0),
         Err(refusal) => told(refusal),
