@@ -1,2 +1,2 @@
-pub mod Counts
+pub mod Finding
 pub mod Running

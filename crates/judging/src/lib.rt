@@ -1,7 +1,6 @@
 // Judging a table, over any ledger.
-mod finding;
 mod judging;
-mod place;
+mod line;
 
-pub use crate::finding::{Finding, Overfull};
-pub use crate::judging::{desk_for, judge};
+pub use crate::judging::{Overfull, judge};
+pub use crate::line::judgement;

@@ -1,4 +1,2 @@
 pub mod Computing
 pub mod Drawing
-pub mod Unique
-pub mod Marking

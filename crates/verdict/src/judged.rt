@@ -1,21 +1,16 @@
-ghost use Rattle.std.specs.Prelude.{◌≡◌, ℕ, Decides};
-ghost use Rattle.policy.specs.Nesting.{nested_by};
+ghost use Rattle.std.specs.Prelude.{◌≡◌};
 ghost use Rattle.table.specs.Answers.{meaning};
-ghost use Rattle.theory.specs.Roles.{Unsafe, is_unsafe};
 ghost use Rattle.verdict.specs.Verdicts.{VerdictOf};
 
 use crate::verdict::Verdict;
-use policy::SafeShared;
 use table::checked::Checked;
 
-/// A table with its verdict and the set of its unsafe axioms, which is the policy of sessions: the only kind of table that will open one.
+/// A table with its verdict: the only kind that will open a session.
 #[derive(Drop)]
 pub struct Judged {
     table: Checked,
     verdict: Verdict,
-    policy: SafeShared,
     ghost own: { ∥ VerdictOf (meaning table) verdict ∥₁ },
-    ghost unsafe_ones: { (k : ℕ) → nested_by policy k ≡ is_unsafe (meaning table) k },
 }
 
 impl Judged {
@@ -25,12 +20,7 @@ impl Judged {
         ensures table { result.table ≡ table }
         ensures verdict { result.verdict ≡ verdict }
     {
-        let policy = SafeShared::of(&table);
-        Judged {
-            table,
-            verdict,
-            policy,
-        }
+        Judged { table, verdict }
     }
 
     /// Its verdict.
@@ -39,12 +29,5 @@ impl Judged {
         ensures own { ∥ VerdictOf (meaning self.now.table) result ∥₁ }
     {
         self.verdict
-    }
-
-    /// The policy that nests the witnesses of exactly its unsafe axioms.
-    pub fn policy(&self) -> SafeShared
-        ensures { (k : ℕ) → nested_by result k ≡ is_unsafe (meaning self.now.table) k }
-    {
-        self.policy
     }
 }

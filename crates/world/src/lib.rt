@@ -1,8 +1,6 @@
 // What trials are made on.
 mod attempt;
-mod fault;
 mod world;
 
-pub use crate::attempt::{Attempt, Variables};
-pub use crate::fault::{In, Lacking, within};
+pub use crate::attempt::{Attempt, Lacking, Variables};
 pub use crate::world::World;

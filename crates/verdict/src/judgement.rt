@@ -1,13 +1,18 @@
 ghost use Rattle.std.specs.Prelude.{Some};
-ghost use Rattle.judgement.specs.Lines.{shape_text, judgement_text};
+ghost use Rattle.verdict.specs.Lines.{shape_text, judgement_text};
 
-use crate::judgement::Judgement;
+use crate::verdict::Verdict;
+use layout::refusal::Refusal;
 use shapes::shape::Shape;
 use std::fmt::{Display, Formatter, Result, Write};
-use verdict::Verdict;
 
-/// The number of the refusal for want of rows.
-const OVERFULL: u8 = 9;
+/// What became of a table: its verdict, a refusal of the table, or the rule at which the ledger's rows did not suffice, 0 before the first.
+#[derive(Clone, Copy)]
+pub enum Judgement {
+    Found(Verdict),
+    Refused(Refusal),
+    Overfull(u16),
+}
 
 /// A shape by its name.
 #[derive(Drop)]
@@ -30,22 +35,19 @@ impl Display for Judgement {
 
     fn fmt<W: Write>(&self, f: &mut Formatter<W>) -> Result {
         match self {
-            Judgement::Found(judged, _) => {
-                let Verdict {
-                    shape,
-                    height,
-                    unsafe_axioms,
-                } = judged.verdict();
-                writeln!(f, "{} h={height} u={unsafe_axioms}", ShapeName(shape))
+            Judgement::Found(verdict) => {
+                let height = verdict.height;
+                let count = verdict.unsafe_axioms;
+                writeln!(f, "{} h={height} u={count}", ShapeName(verdict.shape))
             }
             Judgement::Refused(refusal) => {
                 let number = refusal.number();
                 let place = refusal.place();
                 writeln!(f, "refused {number} at {place}")
             }
-            Judgement::Overfull(_, overfull) => {
-                let place = overfull.place();
-                writeln!(f, "refused {OVERFULL} at {place}")
+            Judgement::Overfull(rule) => {
+                let number = 9u8;
+                writeln!(f, "refused {number} at {rule}")
             }
         }
     }
