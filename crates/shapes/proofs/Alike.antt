@@ -10,7 +10,7 @@ use Rattle.shapes.specs.Cycles.{DirectedCycle, UndirectedCycle}
 use Rattle.shapes.specs.Heights.{MarkedPath, IsHeight}
 use Rattle.shapes.specs.Shapes.{Shaped, OneShape}
 use Rattle.shapes.specs.Surveys.{HeightBy, OneSurvey}
-use Rattle.shapes.proofs.Chains.{height-one}
+use Rattle.shapes.proofs.Chains.{height_one}
 
 -- by cases of the two shapes
 shape_one : OneShape
@@ -76,8 +76,8 @@ height a marked k t = record {
 
 -- graphs that are alike and of one shape have one height
 heights : {g h : Digraph} → Alike g h → (marked : ℕ → Bool) (s : Shape) (j k : ℕ) → HeightBy s g marked j → HeightBy s h marked k → j ≡ k
-heights a marked Forest j k p q = height-one _ marked j k (height a marked j p) q
-heights a marked Acyclic j k p q = height-one _ marked j k (height a marked j p) q
+heights a marked Forest j k p q = height_one _ marked j k (height a marked j p) q
+heights a marked Acyclic j k p q = height_one _ marked j k (height a marked j p) q
 heights a marked Cyclic j k p q = p ∙ sym q
 
 -- one shape, and so one height

@@ -110,5 +110,5 @@ one_way : (g : Digraph) (marked : ℕ → Bool) (h k : ℕ) → IsHeight g marke
 one_way g marked h k p q =
     ⊎_elim (λ i. let (a, l, c, e) = p.reached i in omega (arith, q.most a l c)) (λ i. omega arith) (cases_lt 0 h)
 
-pub height-one : OneHeight
-height-one g marked h k p q = let a = one_way g marked h k p q in let b = one_way g marked k h q p in omega arith
+pub height_one : OneHeight
+height_one g marked h k p q = let a = one_way g marked h k p q in let b = one_way g marked k h q p in omega arith

@@ -12,7 +12,7 @@ use Rattle.shapes.specs.Shapes.{Shaped}
 use Rattle.shapes.specs.Computed.{most_below, on_cycle, has_cycle, on_ring, has_ring, shape_of, best_in, height_of, Computes}
 use Rattle.graph.specs.Reached.{some_below, reached}
 use Rattle.graph.proofs.Computing.{some_below_decides, reach_computes}
-use Rattle.shapes.proofs.Rings.{cycle-joined, joined-cycle}
+use Rattle.shapes.proofs.Rings.{cycle_joined, joined_cycle}
 use Rattle.shapes.proofs.Forests.{undirected_differ}
 use Rattle.shapes.proofs.Chains.{Best, best_none, best_more, best_all}
 
@@ -23,8 +23,8 @@ module _ (g : Digraph) where
       (λ (b, i, (e, p)). (b, record { from = h; to = i; runs = e }, p)) (λ (b, s, p). (b, s.to, (s.runs, p)))
       (some_below_decides _ (λ b. (g.edge a b ≡ true) × Leads g b a) g.nodes (λ b i. Decides-and (g.edge a b) (reached g b a) (λ e. e, λ e. e) (reach_computes g b a i)))
 
-  cycle-computes : Decides (has_cycle g) (DirectedCycle g)
-  cycle-computes =
+  cycle_computes : Decides (has_cycle g) (DirectedCycle g)
+  cycle_computes =
       Decides-like {P = (a : ℕ) × (a < g.nodes) × Turns g a} (has_cycle g) (λ (a, h, t). (a, t)) (λ (a, t). (a, t.1.from, t))
       (some_below_decides (on_cycle g) (Turns g) g.nodes turns_computes)
 
@@ -36,14 +36,14 @@ module _ (g : Digraph) (free : DirectedCycle g → ⊥) where
       (some_below_decides _ (λ b. ((undirected g).edge a b ≡ true) × Leads (without (undirected g) a b) a b) g.nodes
       (λ b i. Decides-and ((undirected g).edge a b) (reached (without (undirected g) a b) a b) (λ e. e, λ e. e) (reach_computes (without (undirected g) a b) a b h)))
 
-  ring-computes : Decides (has_ring g) (UndirectedCycle g)
-  ring-computes =
+  ring_computes : Decides (has_ring g) (UndirectedCycle g)
+  ring_computes =
       Decides-like {P = (a : ℕ) × (a < g.nodes) × Rejoined g a} (has_ring g)
-      (λ (a, h, (b, s, p)). joined-cycle g a b (undirected_differ g free a b s) s p) (λ r. let (a, j) = cycle-joined g r in (a, j.1.from, j))
+      (λ (a, h, (b, s, p)). joined_cycle g a b (undirected_differ g free a b s) s p) (λ r. let (a, j) = cycle_joined g r in (a, j.1.from, j))
       (some_below_decides (on_ring g) (Rejoined g) g.nodes joined-computes)
 
 pub shape_computes : (g : Digraph) → Shaped g (shape_of g)
-shape_computes g = go (has_cycle g) (has_ring g) (cycle-computes g) (ring-computes g)
+shape_computes g = go (has_cycle g) (has_ring g) (cycle_computes g) (ring_computes g)
   where
     go : (c r : Bool) → Decides c (DirectedCycle g) → ((DirectedCycle g → ⊥) → Decides r (UndirectedCycle g)) → Shaped g (cond c Cyclic (cond r Acyclic Forest))
     go true r d e = d.0 refl
@@ -100,10 +100,10 @@ module _ (g : Digraph) (marked : ℕ → Bool) where
       subst (λ j. Best g marked j x (best_in g marked (suc k) x)) (add-one k)
       (best_more g marked k (best_in g marked k) (rounds k) x (best_in g marked (suc k) x) h (one_more k x h))
 
-  pub height-computes : (DirectedCycle g → ⊥) → IsHeight g marked (height_of g marked)
-  height-computes free =
+  pub height_computes : (DirectedCycle g → ⊥) → IsHeight g marked (height_of g marked)
+  height_computes free =
       best_all g marked free g.nodes g.nodes (height_of g marked) (best_in g marked g.nodes) (omega arith) refl (rounds g.nodes)
       (largest_computes (best_in g marked g.nodes) g.nodes)
 
 pub computes : Computes
-computes = record { shape = shape_computes; height = height-computes }
+computes = record { shape = shape_computes; height = height_computes }

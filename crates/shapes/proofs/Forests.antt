@@ -7,7 +7,7 @@ use Rattle.shapes.specs.Cycles.{DirectedCycle, UndirectedCycle}
 use Rattle.shapes.specs.Laws.{UniquePaths, Antisymmetric}
 use Rattle.graph.proofs.Walks.{join, one, walk_leads}
 use Rattle.shapes.proofs.Edges.{back, there, undirected-both, without-both, AreBoth, keeps}
-use Rattle.shapes.proofs.Rings.{joined-cycle}
+use Rattle.shapes.proofs.Rings.{joined_cycle}
 
 pub antisymmetric : Antisymmetric
 antisymmetric g free a b stay q = refl
@@ -34,7 +34,7 @@ aside g a c {x} far (step {b = y} s p) = step (keeps (undirected g) a c off (the
 -- two paths that part and meet again close an undirected cycle
 fork : (g : Digraph) → (DirectedCycle g → ⊥) → (a b c d : ℕ) → Step g a c → Leads g c b → Step g a d → Leads g d b → (c ≡ d → ⊥) → UndirectedCycle g
 fork g free a b c d s p t q ne =
-    joined-cycle g a c (ends_differ g free a c s) (there s)
+    joined_cycle g a c (ends_differ g free a c s) (there s)
     (step (keeps (undirected g) a c off (there t))
     (join (aside g a c (λ r. free (a, (d, t, r))) q)
     (back (without-both (undirected g) a c (undirected-both g)) (aside g a c (λ r. free (a, (c, s, r))) p))))

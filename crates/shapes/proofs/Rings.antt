@@ -22,18 +22,18 @@ away g a z c (x ∷ l) b (s, w) out = step (keeps g a z off s) (away g a z x l b
     off (inl (p, q)) = out (Memᴰ.head (sym p))
     off (inr (p, q)) = out (Memᴰ.tail (Memᴰ.head (sym q)))
 
-ring-joined : (g : Digraph) (a : ℕ) (l : List ℕ) (z : ℕ) → 3 ≤ length (a ∷ l) → Distinct (a ∷ l) → Walk (undirected g) a l z → Step (undirected g) z a → Rejoined g a
-ring-joined g a [] z three d w s = absurd (omega arith)
-ring-joined g a (x ∷ []) z three d w s = absurd (omega arith)
-ring-joined g a (x ∷ y ∷ l) z three d (t, w) s =
+ring_joined : (g : Digraph) (a : ℕ) (l : List ℕ) (z : ℕ) → 3 ≤ length (a ∷ l) → Distinct (a ∷ l) → Walk (undirected g) a l z → Step (undirected g) z a → Rejoined g a
+ring_joined g a [] z three d w s = absurd (omega arith)
+ring_joined g a (x ∷ []) z three d w s = absurd (omega arith)
+ring_joined g a (x ∷ y ∷ l) z three d (t, w) s =
     (z, undirected-both g z a s, step (keeps (undirected g) a z off t) (away (undirected g) a z x (y ∷ l) z w d.0))
   where
     off : AreBoth a z a x → ⊥
     off (inl (p, q)) = d.1.0 (Memᴰ.cast q (last_in (undirected g) x y l z w))
     off (inr (p, q)) = d.0 (Memᴰ.tail (Memᴰ.cast p (last_in (undirected g) x y l z w)))
 
-pub cycle-joined : (g : Digraph) → UndirectedCycle g → (a : ℕ) × Rejoined g a
-cycle-joined g r = (r.a, ring-joined g r.a r.l r.z r.three r.distinct r.around r.home)
+pub cycle_joined : (g : Digraph) → UndirectedCycle g → (a : ℕ) × Rejoined g a
+cycle_joined g r = (r.a, ring_joined g r.a r.l r.z r.three r.distinct r.around r.home)
 
 simple_ring : (g : Digraph) (a b : ℕ) → (a ≡ b → ⊥) → Step (undirected g) a b → (k : List ℕ) → Walk (without (undirected g) a b) a k b → Distinct (a ∷ k) → UndirectedCycle g
 simple_ring g a b ne s [] w d = absurd (ne w)
@@ -48,8 +48,8 @@ simple_ring g a b ne s (x ∷ y ∷ k) w d = record {
   home = undirected-both g a b s;
 }
 
-pub joined-cycle : (g : Digraph) (a b : ℕ) → (a ≡ b → ⊥) → Step (undirected g) a b → Leads (without (undirected g) a b) a b → UndirectedCycle g
-joined-cycle g a b ne s p =
+pub joined_cycle : (g : Digraph) (a b : ℕ) → (a ≡ b → ⊥) → Step (undirected g) a b → Leads (without (undirected g) a b) a b → UndirectedCycle g
+joined_cycle g a b ne s p =
     let (l, w) = leads_walk p in
     let (k, v, d) = direct (without (undirected g) a b) a l b w in
     simple_ring g a b ne s k v d

@@ -1,5 +1,5 @@
-use Rattle.shapes.proofs.Chains.{height-one}
+use Rattle.shapes.proofs.Chains.{height_one}
 use Rattle.shapes.proofs.laws.height_is_one.Goals as goal
 
 pub returns : goal.returns
-returns c = height-one
+returns c = height_one

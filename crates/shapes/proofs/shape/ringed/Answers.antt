@@ -1,14 +1,14 @@
 use Rattle.std.proofs.Common.{refl, arith, below_more}
 use Rattle.std.proofs.lemmas.Bool.{false≢true}
 use Rattle.shapes.specs.Cycles.{Rejoined}
-use Rattle.shapes.proofs.Rings.{cycle-joined, joined-cycle}
+use Rattle.shapes.proofs.Rings.{cycle_joined, joined_cycle}
 use Rattle.shapes.proofs.Forests.{undirected_differ}
 use Rattle.shapes.proofs.shape.ringed.Goals as goal
 
 pub returns-then-rejoined : goal.returns-then-rejoined
 returns-then-rejoined g c =
     let h = c.if-rejoined.ensures.0 refl in
-    (λ _. joined-cycle (g.G.Graph.digraph c.args.g.now) c.loop-a.a h.0 (undirected_differ _ c.requires _ _ h.1) h.1 h.2, λ _. refl)
+    (λ _. joined_cycle (g.G.Graph.digraph c.args.g.now) c.loop-a.a h.0 (undirected_differ _ c.requires _ _ h.1) h.1 h.2, λ _. refl)
 
 pub loop-a-preserved : goal.loop-a-preserved
 loop-a-preserved g c =
@@ -18,5 +18,5 @@ loop-a-preserved g c =
 pub returns : goal.returns
 returns g c = (
   λ e. absurd (false≢true e),
-  λ r. let h = cycle-joined (g.G.Graph.digraph c.args.g.now) r in absurd (c.loop-a.invariant h.0 (omega (arith, h.1.1.from)) h.1),
+  λ r. let h = cycle_joined (g.G.Graph.digraph c.args.g.now) r in absurd (c.loop-a.invariant h.0 (omega (arith, h.1.1.from)) h.1),
 )
