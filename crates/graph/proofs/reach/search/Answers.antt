@@ -18,4 +18,4 @@ loop-x-preserved g c = (
 pub returns : goal.returns
 returns g c =
     swept_decides (g.G.Graph.digraph c.args.g.now) c.args.a c.args.b c.loop-x.seen c.loop-x.followed c.loop-x.invariant.0
-    (λ k h. c.in-default.ensures k (omega arith)) c.requires.to
+    (λ k h. c.in_default.ensures k (omega arith)) c.requires.to

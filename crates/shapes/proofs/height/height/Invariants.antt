@@ -5,4 +5,4 @@ use Rattle.shapes.proofs.height.height.Given as goal
 
 abbrev pub invariant-loop-round : goal.invariant-loop-round
 invariant-loop-round g l =
-    (x : ℕ) → x < (g.G.Graph.digraph l.g).nodes → Best (g.G.Graph.digraph l.g) (marks l.marked) l.-round x (get_or l.best x 0)
+    (x : ℕ) → x < (g.G.Graph.digraph l.g).nodes → Best (g.G.Graph.digraph l.g) (marks l.marked) l._round x (get_or l.best x 0)

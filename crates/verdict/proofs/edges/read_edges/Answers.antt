@@ -8,7 +8,7 @@ use Rattle.shapes.specs.Views.{tabled}
 use Rattle.verdict.specs.Links.{links}
 use Rattle.verdict.proofs.Drawing.{any_more}
 use Rattle.verdict.proofs.edges.read_edges.Goals as goal
-use Rattle.verdict.proofs.edges.read_edges.Goals.{in-Some, in-default}
+use Rattle.verdict.proofs.edges.read_edges.Goals.{in-Some, in_default}
 
 pub loop-k-init : goal.loop-k-init
 loop-k-init g c = (refl, λ i j. ap (λ (d : Digraph). d.edge i j) c.up-to-rows.ensures)
@@ -24,10 +24,10 @@ loop-k-preserved g c =
                 ap (λ (r : Rows). (tabled r.rows r.count).edge i j) w.rows-is ∙ w.draw.ensures.edges i j ∙ ap (λ b. b || links i j w.in-Some.entry.fact) (c.loop-k.invariant.1 i j)
                 ∙ sym (any_more (λ (e : Entry). links i j e.fact) es c.loop-k.k w.in-Some.entry at),
           )
-      | in-default w ↦
+      | in_default w ↦
           let low : c.loop-k.k < length es = omega (arith, c.count-k-end.ensures) in
           let (a, at) = nth_some es c.loop-k.k low in
-          no_some (sym (sym c.entry-at.ensures ∙ w.in-default.is) ∙ at)
+          no_some (sym (sym c.entry-at.ensures ∙ w.in_default.is) ∙ at)
     ]
 
 pub returns : goal.returns
