@@ -6,37 +6,37 @@ use Rattle.chase.specs.Judging.{unsafe_term}
 use Rattle.start.proofs.Marking.{unmarked, Marks, marks-one, marks-none}
 use Rattle.start.proofs.Witnesses.{room}
 use Rattle.start.proofs.marks.unsafe_marks.Goals as goal
-use Rattle.start.proofs.marks.unsafe_marks.Goals.{then-asks-witness, else-asks-witness}
+use Rattle.start.proofs.marks.unsafe_marks.Goals.{then-asks_witness, else-asks_witness}
 
 pub loop-k-init : goal.loop-k-init
 loop-k-init c = (refl, refl, unmarked (meaning c.args.table.now) 48)
 
-fits : (c : goal.After-is-unsafe) → c.loop-k.next < 48
+fits : (c : goal.After-is_unsafe) → c.loop-k.next < 48
 fits c =
-    omega (arith, c.loop-k.invariant.1, room (meaning c.args.table.now) c.args.table.now.sound c.loop-k.k (omega (arith, c.axiom-count-k-end.ensures.all)) (sym c.if-asks-witness.ensures))
+    omega (arith, c.loop-k.invariant.1, room (meaning c.args.table.now) c.args.table.now.sound c.loop-k.k (omega (arith, c.axiom_count-k-end.ensures.all)) (sym c.if-asks_witness.ensures))
 
 pub bounds-marks-next : goal.bounds-marks-next
 bounds-marks-next c = fits c
 
-pub overflow-add-next : goal.overflow-add-next
-overflow-add-next c = omega (arith, fits c)
+pub overflow_add-next : goal.overflow_add-next
+overflow_add-next c = omega (arith, fits c)
 
 pub loop-k-preserved : goal.loop-k-preserved
 loop-k-preserved c =
     let t = meaning c.args.table.now in
     let k = c.loop-k.k in
-    let at = λ (marks : List Bool) (m : ℕ) (e : c.if-asks-witness.marks ≡ marks) (f : c.if-asks-witness.next ≡ m) (h : Marks t marks m (k + 1)).
-    subst (λ n. Marks t c.if-asks-witness.marks n (k + 1)) (sym f) (subst (λ l. Marks t l m (k + 1)) (sym e) h) in
-    elim c.if-asks-witness.branch [
-      | then-asks-witness w ↦
-          let asks = sym c.asks-witness.ensures ∙ w.if-asks-witness.true in
-          at _ _ w.marks-is w.next-is (marks-one t c.loop-k.marks c.loop-k.next k c.loop-k.invariant w.is-unsafe.result asks (room t c.args.table.now.sound k (omega (arith, c.axiom-count-k-end.ensures.all)) asks) w.is-unsafe.ensures.computes)
-      | else-asks-witness w ↦
-          at _ _ w.marks-is w.next-is (marks-none t c.loop-k.marks c.loop-k.next k c.loop-k.invariant (sym c.asks-witness.ensures ∙ w.if-asks-witness.false))
+    let at = λ (marks : List Bool) (m : ℕ) (e : c.if-asks_witness.marks ≡ marks) (f : c.if-asks_witness.next ≡ m) (h : Marks t marks m (k + 1)).
+    subst (λ n. Marks t c.if-asks_witness.marks n (k + 1)) (sym f) (subst (λ l. Marks t l m (k + 1)) (sym e) h) in
+    elim c.if-asks_witness.branch [
+      | then-asks_witness w ↦
+          let asks = sym c.asks_witness.ensures ∙ w.if-asks_witness.true in
+          at _ _ w.marks-is w.next-is (marks-one t c.loop-k.marks c.loop-k.next k c.loop-k.invariant w.is_unsafe.result asks (room t c.args.table.now.sound k (omega (arith, c.axiom_count-k-end.ensures.all)) asks) w.is_unsafe.ensures.computes)
+      | else-asks_witness w ↦
+          at _ _ w.marks-is w.next-is (marks-none t c.loop-k.marks c.loop-k.next k c.loop-k.invariant (sym c.asks_witness.ensures ∙ w.if-asks_witness.false))
     ]
 
 pub returns : goal.returns
 returns c =
     let t = meaning c.args.table.now in
-    let all : c.loop-k.k ≡ length t.axioms = omega (arith, c.axiom-count-k-end.ensures.all) in
+    let all : c.loop-k.k ≡ length t.axioms = omega (arith, c.axiom_count-k-end.ensures.all) in
     λ i. c.loop-k.invariant.2 i ∙ ap (λ n. unsafe_term t (term_at (terms_to t n) i)) all

@@ -9,55 +9,55 @@ use Rattle.table.proofs.check.check.Goals as goal
 
 pub returns-in_err-sizes : goal.returns-in_err-sizes
 returns-in_err-sizes c =
-    let p = err_from_is_err_and c.from-residual.result c.from-residual.ensures.1 in
+    let p = err_from_is_err_and c.from_residual.result c.from_residual.ensures.1 in
     record { says = rw (p.1, p.2) c.in_err-sizes.ensures; inverse = reading_inverts_writing }
 
-pub read-lines-requires : goal.read-lines-requires
-read-lines-requires c = ap length (rest_all 8 c.args.bytes.now) ∙ c.in_ok-sizes.ensures.whole
+pub read_lines-requires : goal.read_lines-requires
+read_lines-requires c = ap length (rest_all 8 c.args.bytes.now) ∙ c.in_ok-sizes.ensures.whole
 
 pub returns-in_err-axioms : goal.returns-in_err-axioms
 returns-in_err-axioms c =
-    let p = err_from_is_err_and c.from-residual-in_err-axioms.result c.from-residual-in_err-axioms.ensures.1 in
+    let p = err_from_is_err_and c.from_residual-in_err-axioms.result c.from_residual-in_err-axioms.ensures.1 in
     record {
       says = rw (p.1, p.2) (line_refused c.args.bytes.now _ c.in_ok-sizes.sizes (rest_all 8 c.args.bytes.now) c.in_ok-sizes.ensures _ c.in_err-axioms.ensures);
       inverse = reading_inverts_writing;
     }
 
-pub returns-in_err-few-witnesses : goal.returns-in_err-few-witnesses
-returns-in_err-few-witnesses c =
-    let p = err_from_is_err_and c.from-residual-in_err-few-witnesses.result c.from-residual-in_err-few-witnesses.ensures.1 in
+pub returns-in_err-few_witnesses : goal.returns-in_err-few_witnesses
+returns-in_err-few_witnesses c =
+    let p = err_from_is_err_and c.from_residual-in_err-few_witnesses.result c.from_residual-in_err-few_witnesses.ensures.1 in
     let h : length c.in_ok-axioms.axioms ≡ 64 = omega arith in
     record {
-      says = rw (p.1, p.2) (witness_refused c.args.bytes.now _ c.in_ok-sizes.sizes (rest_all 8 c.args.bytes.now) c.in_ok-sizes.ensures c.in_ok-axioms.axioms h c.in_ok-axioms.ensures _ c.in_err-few-witnesses.ensures);
+      says = rw (p.1, p.2) (witness_refused c.args.bytes.now _ c.in_ok-sizes.sizes (rest_all 8 c.args.bytes.now) c.in_ok-sizes.ensures c.in_ok-axioms.axioms h c.in_ok-axioms.ensures _ c.in_err-few_witnesses.ensures);
       inverse = reading_inverts_writing;
     }
 
-pub simple-counts-requires : goal.simple-counts-requires
-simple-counts-requires c =
+pub simple_counts-requires : goal.simple_counts-requires
+simple_counts-requires c =
     let h : length c.in_ok-axioms.axioms ≡ 64 = omega arith in
     record {
       few = omega (arith, length-take (c.in_ok-sizes.sizes.axioms - 0) c.in_ok-axioms.axioms);
       declared = all_declared c.args.bytes.now _ c.in_ok-sizes.sizes (rest_all 8 c.args.bytes.now) c.in_ok-sizes.ensures c.in_ok-axioms.axioms h c.in_ok-axioms.ensures;
     }
 
-pub returns-in_err-simple-counts : goal.returns-in_err-simple-counts
-returns-in_err-simple-counts c =
-    let p = err_from_is_err_and c.from-residual-in_err-simple-counts.result c.from-residual-in_err-simple-counts.ensures.1 in
+pub returns-in_err-simple_counts : goal.returns-in_err-simple_counts
+returns-in_err-simple_counts c =
+    let p = err_from_is_err_and c.from_residual-in_err-simple_counts.result c.from_residual-in_err-simple_counts.ensures.1 in
     let h : length c.in_ok-axioms.axioms ≡ 64 = omega arith in
     record {
-      says = rw (p.1, p.2) (count_refused c.args.bytes.now _ c.in_ok-sizes.sizes (rest_all 8 c.args.bytes.now) c.in_ok-sizes.ensures c.in_ok-axioms.axioms h c.in_ok-axioms.ensures c.in_ok-few-witnesses.ensures _ c.in_err-simple-counts.ensures);
+      says = rw (p.1, p.2) (count_refused c.args.bytes.now _ c.in_ok-sizes.sizes (rest_all 8 c.args.bytes.now) c.in_ok-sizes.ensures c.in_ok-axioms.axioms h c.in_ok-axioms.ensures c.in_ok-few_witnesses.ensures _ c.in_err-simple_counts.ensures);
       inverse = reading_inverts_writing;
     }
 
-pub invariant-of-result : goal.invariant-of-result
-invariant-of-result c =
+pub invariant_of-result : goal.invariant_of-result
+invariant_of-result c =
     let h : length c.in_ok-axioms.axioms ≡ 64 = omega arith in
-    ((well_formed_decides _).1 (accepted_well_formed c.args.bytes.now _ (all_passed c.args.bytes.now _ c.in_ok-sizes.sizes (rest_all 8 c.args.bytes.now) c.in_ok-sizes.ensures c.in_ok-axioms.axioms h c.in_ok-axioms.ensures c.in_ok-few-witnesses.ensures c.in_ok-simple-counts.ensures)), tt)
+    ((well_formed_decides _).1 (accepted_well_formed c.args.bytes.now _ (all_passed c.args.bytes.now _ c.in_ok-sizes.sizes (rest_all 8 c.args.bytes.now) c.in_ok-sizes.ensures c.in_ok-axioms.axioms h c.in_ok-axioms.ensures c.in_ok-few_witnesses.ensures c.in_ok-simple_counts.ensures)), tt)
 
 pub returns : goal.returns
 returns c =
     let h : length c.in_ok-axioms.axioms ≡ 64 = omega arith in
     record {
-      says = all_passed c.args.bytes.now _ c.in_ok-sizes.sizes (rest_all 8 c.args.bytes.now) c.in_ok-sizes.ensures c.in_ok-axioms.axioms h c.in_ok-axioms.ensures c.in_ok-few-witnesses.ensures c.in_ok-simple-counts.ensures;
+      says = all_passed c.args.bytes.now _ c.in_ok-sizes.sizes (rest_all 8 c.args.bytes.now) c.in_ok-sizes.ensures c.in_ok-axioms.axioms h c.in_ok-axioms.ensures c.in_ok-few_witnesses.ensures c.in_ok-simple_counts.ensures;
       inverse = reading_inverts_writing;
     }

@@ -11,20 +11,20 @@ returns-in_default c = let short : length c.args.bytes.now < 8 = search rules in
 pub returns-in_err-sizes : goal.returns-in_err-sizes
 returns-in_err-sizes c =
     let long : 8 ≤ length c.args.bytes.now = search rules in
-    let p = err_from_is_err_and c.from-residual.result c.from-residual.ensures.1 in
-    let e = simp (c.word-of.ensures, c.word-of-2.ensures, c.word-of-3.ensures, c.word-of-4.ensures) at c.in_err-sizes.ensures in
+    let p = err_from_is_err_and c.from_residual.result c.from_residual.ensures.1 in
+    let e = simp (c.word_of.ensures, c.word_of-2.ensures, c.word_of-3.ensures, c.word_of-4.ensures) at c.in_err-sizes.ensures in
     rw (p.1, p.2) (bad_size c.args.bytes.now long _ e)
 
 pub returns-then-rest-sizes : goal.returns-then-rest-sizes
 returns-then-rest-sizes c =
     let long : 8 ≤ length c.args.bytes.now = search rules in
-    let e = simp (c.word-of.ensures, c.word-of-2.ensures, c.word-of-3.ensures, c.word-of-4.ensures) at c.in_ok-sizes.ensures in
+    let e = simp (c.word_of.ensures, c.word_of-2.ensures, c.word_of-3.ensures, c.word_of-4.ensures) at c.in_ok-sizes.ensures in
     wrong_length c.args.bytes.now long e.0
     (λ h. c.if-rest-sizes.true (ap length (rest_all 8 c.args.bytes.now) ∙ h ∙ ap (λ n. 10 * n) (sym e.4)))
 
 pub returns : goal.returns
 returns c =
-    let e = simp (c.word-of.ensures, c.word-of-2.ensures, c.word-of-3.ensures, c.word-of-4.ensures) at c.in_ok-sizes.ensures in
+    let e = simp (c.word_of.ensures, c.word_of-2.ensures, c.word_of-3.ensures, c.word_of-4.ensures) at c.in_ok-sizes.ensures in
     record {
       long = search rules;
       within = e.0;

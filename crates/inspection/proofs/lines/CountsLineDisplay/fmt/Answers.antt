@@ -9,5 +9,5 @@ same_line a b c d i = counts_line (a i) (b i) (c i) (d i)
 pub returns-clause-writes : goal.returns-clause-writes
 returns-clause-writes g c plain ok =
     has_written_of_eq g.W.Write.write_str_gives _ _ _ _
-    (same_line c.simple-roles-simple.ensures c.sizes-roles.ensures.roles c.unsafe-axioms-unsafe-axioms.ensures c.witness-axioms-witnesses.ensures)
+    (same_line c.simple_roles-simple.ensures c.sizes-roles.ensures.roles c.unsafe_axioms-unsafe_axioms.ensures c.witness_axioms-witnesses.ensures)
     (c.writeln.ensures.writes plain ok)

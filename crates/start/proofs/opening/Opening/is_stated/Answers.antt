@@ -9,11 +9,11 @@ loop-k-init c = refl
 
 pub loop-k-preserved : goal.loop-k-preserved
 loop-k-preserved c =
-    not-here (says (opening_in c.args.self)) (meaning c.args.table.now).axioms c.loop-k.k c.loop-k.invariant (omega (arith, c.axiom-count-k-end.ensures.all)) (sym c.is-axiom.ensures ∙ c.if-is-axiom.false)
+    not-here (says (opening_in c.args.self)) (meaning c.args.table.now).axioms c.loop-k.k c.loop-k.invariant (omega (arith, c.axiom_count-k-end.ensures.all)) (sym c.is_axiom.ensures ∙ c.if-is_axiom.false)
 
-pub returns-then-is-axiom : goal.returns-then-is-axiom
-returns-then-is-axiom c =
-    found (says (opening_in c.args.self)) (meaning c.args.table.now).axioms c.loop-k.k c.loop-k.invariant (omega (arith, c.axiom-count-k-end.ensures.all)) (sym c.is-axiom.ensures ∙ c.if-is-axiom.true)
+pub returns-then-is_axiom : goal.returns-then-is_axiom
+returns-then-is_axiom c =
+    found (says (opening_in c.args.self)) (meaning c.args.table.now).axioms c.loop-k.k c.loop-k.invariant (omega (arith, c.axiom_count-k-end.ensures.all)) (sym c.is_axiom.ensures ∙ c.if-is_axiom.true)
 
 pub returns : goal.returns
-returns c = nowhere (says (opening_in c.args.self)) (meaning c.args.table.now).axioms c.loop-k.k c.loop-k.invariant (omega (arith, c.axiom-count-k-end.ensures.all))
+returns c = nowhere (says (opening_in c.args.self)) (meaning c.args.table.now).axioms c.loop-k.k c.loop-k.invariant (omega (arith, c.axiom_count-k-end.ensures.all))

@@ -8,8 +8,8 @@ use Rattle.table.specs.Answers.{meaning}
 use Rattle.table.proofs.Viewing.{sound_declared}
 use Rattle.table.proofs.checked.Checked.is_unsafe.Goals as goal
 
-pub has-unsafe-requires : goal.has-unsafe-requires
-has-unsafe-requires c =
+pub has_unsafe-requires : goal.has_unsafe-requires
+has_unsafe-requires c =
     let t = meaning c.args.self.now in
     let a = axiom_in c.in-Some.axiom in
     ap (λ l. declares (table_of c.args.self.now.sizes l) a) c.stated.ensures.value
@@ -19,8 +19,8 @@ pub returns-in-Some : goal.returns-in-Some
 returns-in-Some c =
     let t = meaning c.args.self.now in
     let a = axiom_in c.in-Some.axiom in
-    let same : c.has-unsafe.result ≡ is_unsafe t c.args.k =
-    c.has-unsafe.ensures ∙ ap (λ l. has_unsafe (table_of c.args.self.now.sizes l) a) c.stated.ensures.value ∙ ap (unsafe_in t) c.in-Some.ensures in
+    let same : c.has_unsafe.result ≡ is_unsafe t c.args.k =
+    c.has_unsafe.ensures ∙ ap (λ l. has_unsafe (table_of c.args.self.now.sizes l) a) c.stated.ensures.value ∙ ap (unsafe_in t) c.in-Some.ensures in
     record {
       decides = subst (λ b. Decides b (Unsafe t c.args.k)) (sym same) (unsafe_decides t (sound_declared t c.args.self.now.sound) c.args.k);
       computes = same;

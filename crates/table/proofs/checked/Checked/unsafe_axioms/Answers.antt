@@ -7,7 +7,7 @@ use Rattle.layout.specs.Meaning.{axiom_in}
 use Rattle.table.specs.Answers.{meaning}
 use Rattle.table.proofs.Counting.{counted, passed_over, counted_all, up_at}
 use Rattle.table.proofs.checked.Checked.unsafe_axioms.Goals as goal
-use Rattle.table.proofs.checked.Checked.unsafe_axioms.Goals.{then-is-unsafe, else-is-unsafe}
+use Rattle.table.proofs.checked.Checked.unsafe_axioms.Goals.{then-is_unsafe, else-is_unsafe}
 
 pub loop-k-preserved : goal.loop-k-preserved
 loop-k-preserved c =
@@ -15,10 +15,10 @@ loop-k-preserved c =
     let n = length c.stated-k-end.result.now in
     let k = c.loop-k.k in
     let at = up_at n k c.loop-k-test.true in
-    let is = sym c.is-unsafe.ensures.computes in
-    elim c.if-is-unsafe.branch [
-      | then-is-unsafe w ↦ (w.count-is ∙ counted p (up_from 0 n) k c.loop-k.count c.loop-k.invariant.0 k at (is ∙ w.if-is-unsafe.true), omega (arith, w.count-is))
-      | else-is-unsafe w ↦ (w.count-is ∙ passed_over p (up_from 0 n) k c.loop-k.count c.loop-k.invariant.0 k at (is ∙ w.if-is-unsafe.false), omega (arith, w.count-is))
+    let is = sym c.is_unsafe.ensures.computes in
+    elim c.if-is_unsafe.branch [
+      | then-is_unsafe w ↦ (w.count-is ∙ counted p (up_from 0 n) k c.loop-k.count c.loop-k.invariant.0 k at (is ∙ w.if-is_unsafe.true), omega (arith, w.count-is))
+      | else-is_unsafe w ↦ (w.count-is ∙ passed_over p (up_from 0 n) k c.loop-k.count c.loop-k.invariant.0 k at (is ∙ w.if-is_unsafe.false), omega (arith, w.count-is))
     ]
 
 pub returns : goal.returns

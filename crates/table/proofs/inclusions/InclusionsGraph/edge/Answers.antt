@@ -9,14 +9,14 @@ use Rattle.table.proofs.inclusions.InclusionsGraph.edge.Goals as goal
 
 pub returns-then-includes : goal.returns-then-includes
 returns-then-includes c =
-    let found = item_found (includes_by (expression_in c.expression-at-lower.result) (expression_in c.expression-at-upper.result)) axiom_in c.args.self.now.axioms.now c.loop-axiom.axiom-index c.axiom-item.result c.loop-axiom-test.true c.axiom-item.is c.loop-axiom.invariant (sym c.if-includes.ensures) in
-    sym (simp (c.expression-at-lower.ensures, c.expression-at-upper.ensures) at found)
+    let found = item_found (includes_by (expression_in c.expression_at-lower.result) (expression_in c.expression_at-upper.result)) axiom_in c.args.self.now.axioms.now c.loop-axiom.axiom-index c.axiom-item.result c.loop-axiom-test.true c.axiom-item.is c.loop-axiom.invariant (sym c.if-includes.ensures) in
+    sym (simp (c.expression_at-lower.ensures, c.expression_at-upper.ensures) at found)
 
 pub loop-axiom-preserved : goal.loop-axiom-preserved
 loop-axiom-preserved c =
-    item_more (includes_by (expression_in c.expression-at-lower.result) (expression_in c.expression-at-upper.result)) axiom_in c.args.self.now.axioms.now c.loop-axiom.axiom-index c.axiom-item.result c.loop-axiom-test.true c.axiom-item.is c.loop-axiom.invariant (sym c.if-includes.ensures)
+    item_more (includes_by (expression_in c.expression_at-lower.result) (expression_in c.expression_at-upper.result)) axiom_in c.args.self.now.axioms.now c.loop-axiom.axiom-index c.axiom-item.result c.loop-axiom-test.true c.axiom-item.is c.loop-axiom.invariant (sym c.if-includes.ensures)
 
 pub returns : goal.returns
 returns c =
-    let none = scan_all (includes_by (expression_in c.expression-at-lower.result) (expression_in c.expression-at-upper.result)) axiom_in c.args.self.now.axioms.now c.loop-axiom.axiom-index c.loop-axiom-test.false c.loop-axiom.invariant in
-    sym (simp (c.expression-at-lower.ensures, c.expression-at-upper.ensures) at none)
+    let none = scan_all (includes_by (expression_in c.expression_at-lower.result) (expression_in c.expression_at-upper.result)) axiom_in c.args.self.now.axioms.now c.loop-axiom.axiom-index c.loop-axiom-test.false c.loop-axiom.invariant in
+    sym (simp (c.expression_at-lower.ensures, c.expression_at-upper.ensures) at none)
