@@ -18,8 +18,8 @@ fn waiting(seen: &[bool; MOST], followed: &[bool; MOST], n: usize) -> Option<usi
 
 /// Adds each node that an edge from `x` leads to.
 fn spread<G: Graph>(g: &G, x: usize, seen: &mut [bool; MOST])
-    requires { x < (G.Graph.digraph g.now).nodes }
-    ensures { (y : ℕ) → y < (G.Graph.digraph g.now).nodes → marks seen.new y ≡ (marks seen.old y || (G.Graph.digraph g.now).edge x y) }
+    requires { x < (G.digraph g.now).nodes }
+    ensures { (y : ℕ) → y < (G.digraph g.now).nodes → marks seen.new y ≡ (marks seen.old y || (G.digraph g.now).edge x y) }
 {
     for y in 0..g.nodes() {
         if !seen[y] && g.edge(x, y) {
@@ -30,9 +30,9 @@ fn spread<G: Graph>(g: &G, x: usize, seen: &mut [bool; MOST])
 
 /// Whether a path of zero or more edges leads from one node to another.
 fn search<G: Graph>(g: &G, a: usize, b: usize) -> bool
-    requires from { a < (G.Graph.digraph g.now).nodes }
-    requires to { b < (G.Graph.digraph g.now).nodes }
-    ensures { Decides result (Leads (G.Graph.digraph g.now) a b) }
+    requires from { a < (G.digraph g.now).nodes }
+    requires to { b < (G.digraph g.now).nodes }
+    ensures { Decides result (Leads (G.digraph g.now) a b) }
 {
     let n = g.nodes();
     let mut seen = [false; MOST];
@@ -47,7 +47,7 @@ fn search<G: Graph>(g: &G, a: usize, b: usize) -> bool
 
 /// Whether a path of zero or more edges leads from `a` to `b`. No edge leads to or from a number that is no node.
 pub fn reaches<G: Graph>(g: &G, a: usize, b: usize) -> bool
-    ensures { Decides result (Leads (G.Graph.digraph g.now) a b) }
+    ensures { Decides result (Leads (G.digraph g.now) a b) }
 {
     let n = g.nodes();
     if a < n && b < n {

@@ -7,9 +7,9 @@ use graph::graph::{Graph, MOST};
 
 /// One more than the best of the nodes to which an edge leads from `x`, and 0 if `x` is not marked.
 fn one_more<G: Graph>(g: &G, marked: &[bool; MOST], best: &[u8; MOST], x: usize) -> u8
-    requires node { x < (G.Graph.digraph g.now).nodes }
-    requires small { (y : ℕ) → y < (G.Graph.digraph g.now).nodes → slice_index best.now y ≤ 48 }
-    ensures { OneMore (G.Graph.digraph g.now) (marks marked.now) (λ y. slice_index best.now y) x result }
+    requires node { x < (G.digraph g.now).nodes }
+    requires small { (y : ℕ) → y < (G.digraph g.now).nodes → slice_index best.now y ≤ 48 }
+    ensures { OneMore (G.digraph g.now) (marks marked.now) (λ y. slice_index best.now y) x result }
 {
     let n = g.nodes();
     if !marked[x] {
@@ -26,8 +26,8 @@ fn one_more<G: Graph>(g: &G, marked: &[bool; MOST], best: &[u8; MOST], x: usize)
 
 /// The same for each node.
 fn relaxed<G: Graph>(g: &G, marked: &[bool; MOST], best: &[u8; MOST]) -> [u8; MOST]
-    requires { (y : ℕ) → y < (G.Graph.digraph g.now).nodes → slice_index best.now y ≤ 48 }
-    ensures { (x : ℕ) → x < (G.Graph.digraph g.now).nodes → OneMore (G.Graph.digraph g.now) (marks marked.now) (λ y. slice_index best.now y) x (slice_index result x) }
+    requires { (y : ℕ) → y < (G.digraph g.now).nodes → slice_index best.now y ≤ 48 }
+    ensures { (x : ℕ) → x < (G.digraph g.now).nodes → OneMore (G.digraph g.now) (marks marked.now) (λ y. slice_index best.now y) x (slice_index result x) }
 {
     let mut next = [0; MOST];
     for x in 0..g.nodes() {
@@ -52,8 +52,8 @@ fn largest(of: &[u8; MOST], n: usize) -> u8
 
 /// The most nodes on one path of marked nodes, 0 if none is marked.
 pub(crate) fn height<G: Graph>(g: &G, marked: &[bool; MOST]) -> u8
-    requires { DirectedCycle (G.Graph.digraph g.now) → ⊥ }
-    ensures { IsHeight (G.Graph.digraph g.now) (marks marked.now) result }
+    requires { DirectedCycle (G.digraph g.now) → ⊥ }
+    ensures { IsHeight (G.digraph g.now) (marks marked.now) result }
 {
     let n = g.nodes();
     let mut best = [0; MOST];

@@ -16,8 +16,8 @@ pub enum Shape {
 
 /// Whether a path of one or more edges leads from the node back to it.
 fn turns<G: Graph>(g: &G, a: usize) -> bool
-    requires { a < (G.Graph.digraph g.now).nodes }
-    ensures { Decides result (Turns (G.Graph.digraph g.now) a) }
+    requires { a < (G.digraph g.now).nodes }
+    ensures { Decides result (Turns (G.digraph g.now) a) }
 {
     for b in 0..g.nodes() {
         if g.edge(a, b) && reaches(g, b, a) {
@@ -29,7 +29,7 @@ fn turns<G: Graph>(g: &G, a: usize) -> bool
 
 /// Whether there is a directed cycle.
 fn cyclic<G: Graph>(g: &G) -> bool
-    ensures { Decides result (DirectedCycle (G.Graph.digraph g.now)) }
+    ensures { Decides result (DirectedCycle (G.digraph g.now)) }
 {
     for a in 0..g.nodes() {
         if turns(g, a) {
@@ -41,8 +41,8 @@ fn cyclic<G: Graph>(g: &G) -> bool
 
 /// Whether from the node an edge, either way, leads to one from which it is reached without that edge.
 fn rejoined<G: Graph>(g: &G, a: usize) -> bool
-    requires { a < (G.Graph.digraph g.now).nodes }
-    ensures { Decides result (Rejoined (G.Graph.digraph g.now) a) }
+    requires { a < (G.digraph g.now).nodes }
+    ensures { Decides result (Rejoined (G.digraph g.now) a) }
 {
     let both = Undirected { graph: g };
     for b in 0..g.nodes() {
@@ -62,8 +62,8 @@ fn rejoined<G: Graph>(g: &G, a: usize) -> bool
 
 /// Whether a graph with no directed cycle has an undirected one.
 fn ringed<G: Graph>(g: &G) -> bool
-    requires { DirectedCycle (G.Graph.digraph g.now) → ⊥ }
-    ensures { Decides result (UndirectedCycle (G.Graph.digraph g.now)) }
+    requires { DirectedCycle (G.digraph g.now) → ⊥ }
+    ensures { Decides result (UndirectedCycle (G.digraph g.now)) }
 {
     for a in 0..g.nodes() {
         if rejoined(g, a) {
@@ -75,7 +75,7 @@ fn ringed<G: Graph>(g: &G) -> bool
 
 /// The shape of a graph: cyclic with a directed cycle, else acyclic with an undirected one, else a forest.
 pub(crate) fn classify<G: Graph>(g: &G) -> Shape
-    ensures { Shaped (G.Graph.digraph g.now) result }
+    ensures { Shaped (G.digraph g.now) result }
 {
     if cyclic(g) {
         Shape::Cyclic

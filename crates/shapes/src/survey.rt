@@ -14,7 +14,7 @@ pub struct Survey {
 
 /// Surveys a graph some of whose nodes are marked.
 pub fn look<G: Graph>(g: &G, marked: &[bool; MOST]) -> Survey
-    ensures { Surveyed (G.Graph.digraph g.now) (marks marked.now) result.shape result.height }
+    ensures { Surveyed (G.digraph g.now) (marks marked.now) result.shape result.height }
 {
     let shape = classify(g);
     let height = match shape {

@@ -9,7 +9,7 @@ pub(crate) struct Undirected<'a, G: Graph> {
 }
 
 impl<'a, G: Graph> Graph for Undirected<'a, G> {
-    ghost digraph = { λ u. undirected (G.Graph.digraph u.graph.now) };
+    ghost digraph = { λ u. undirected (G.digraph u.graph.now) };
 
     fn nodes(&self) -> usize {
         self.graph.nodes()
@@ -29,7 +29,7 @@ pub(crate) struct Without<'a, G: Graph> {
 }
 
 impl<'a, G: Graph> Graph for Without<'a, G> {
-    ghost digraph = { λ u. without (G.Graph.digraph u.graph.now) u.one u.other };
+    ghost digraph = { λ u. without (G.digraph u.graph.now) u.one u.other };
 
     fn nodes(&self) -> usize {
         self.graph.nodes()

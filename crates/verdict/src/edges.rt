@@ -24,9 +24,9 @@ fn draw(rows: &mut Rows, fact: Fact)
 
 /// Reads the edges that a ledger holds into rows, over the terms up to the last.
 pub fn read_edges<L: Ledger>(ledger: &L, last: Term) -> Rows
-    requires { valid ledger.now }
+    requires { L.valid ledger.now }
     ensures nodes { result.count ≡ last.number + 1 }
-    ensures edges { (i j : ℕ) → (tabled result.rows result.count).edge i j ≡ any_of (λ e. links i j e.fact) (entries ledger.now) }
+    ensures edges { (i j : ℕ) → (tabled result.rows result.count).edge i j ≡ any_of (λ e. links i j e.fact) (L.entries ledger.now) }
 {
     let mut rows = Rows::up_to(last);
     for k in 0..ledger.count() {

@@ -9,10 +9,10 @@ loop-round-init g c = λ x _. best_none (g.G.Graph.digraph c.args.g.now) (marks 
 pub loop-round-preserved : goal.loop-round-preserved
 loop-round-preserved g c =
     λ x h.
-    best_more (g.G.Graph.digraph c.args.g.now) (marks c.args.marked.now) c.loop-round.-round (λ y. get_or c.loop-round.best y 0)
+    best_more (g.G.Graph.digraph c.args.g.now) (marks c.args.marked.now) c.loop-round._round (λ y. get_or c.loop-round.best y 0)
     c.loop-round.invariant x (get_or c.relaxed-best.result x 0) h (c.relaxed-best.ensures x h)
 
 pub returns : goal.returns
 returns g c =
-    best_all (g.G.Graph.digraph c.args.g.now) (marks c.args.marked.now) c.requires c.loop-round.-round c.nodes-n.result c.largest.result
+    best_all (g.G.Graph.digraph c.args.g.now) (marks c.args.marked.now) c.requires c.loop-round._round c.nodes-n.result c.largest.result
     (λ y. get_or c.loop-round.best y 0) (omega arith) c.nodes-n.ensures.count c.loop-round.invariant c.largest.ensures

@@ -52,7 +52,7 @@ returns-in_err-simple_counts c =
 pub invariant_of-result : goal.invariant_of-result
 invariant_of-result c =
     let h : length c.in_ok-axioms.axioms ≡ 64 = omega arith in
-    ((well_formed_decides _).1 (accepted_well_formed c.args.bytes.now _ (all_passed c.args.bytes.now _ c.in_ok-sizes.sizes (rest_all 8 c.args.bytes.now) c.in_ok-sizes.ensures c.in_ok-axioms.axioms h c.in_ok-axioms.ensures c.in_ok-few_witnesses.ensures c.in_ok-simple_counts.ensures)), tt)
+    record { sound = (well_formed_decides _).1 (accepted_well_formed c.args.bytes.now _ (all_passed c.args.bytes.now _ c.in_ok-sizes.sizes (rest_all 8 c.args.bytes.now) c.in_ok-sizes.ensures c.in_ok-axioms.axioms h c.in_ok-axioms.ensures c.in_ok-few_witnesses.ensures c.in_ok-simple_counts.ensures)) }
 
 pub returns : goal.returns
 returns c =
