@@ -1,5 +1,7 @@
 // Fills a list ledger and a bit ledger of 4,096 rows, asks each for every fact, and prints the counts.
 // Arguments name the ledgers to run, `list` or `bits`, so that each can be timed alone.
+#![tactic(auto)]
+
 use ledger::{Added, Entry, Fact, Ledger};
 use ledgers::{BitLedger, ListLedger};
 use names::{Role, Term};

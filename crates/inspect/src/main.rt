@@ -1,4 +1,6 @@
 // Prints the table that stands on standard input, or why it is refused.
+#![tactic(auto)]
+
 use inspection::report::inspect;
 use std::io;
 use std::io::Read;

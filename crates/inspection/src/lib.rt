@@ -1,4 +1,6 @@
 // The text of a table, made with nothing allocated.
+#![tactic(auto)]
+
 mod axioms;
 mod lines;
 mod naming;

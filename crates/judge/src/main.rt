@@ -1,4 +1,6 @@
 // Judges the table that stands on standard input, with 4,096 rows, and prints its verdict or its refusal.
+#![tactic(auto)]
+
 use judging::judgement;
 use ledger::Entry;
 use std::io;

@@ -1,4 +1,6 @@
 // Judging a table, over any ledger.
+#![tactic(auto)]
+
 mod judging;
 mod line;
 

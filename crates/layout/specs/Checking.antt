@@ -1,8 +1,8 @@
 -- Which refusals apply to a table, in which order they are looked for, and so what checking answers.
-use Rattle.std.specs.Prelude.{◌≡◌, ℕ, ◌+◌, ◌*◌, Bool, false, cond, not, ◌&&◌, List, [], ◌∷◌, ◌++◌, map, length, take, Some, None, Option, ◌==◌, nat_le, nat_lt, slice_index}
+use Rattle.std.specs.Prelude.{ℕ, ◌+◌, ◌*◌, Bool, false, cond, not, ◌&&◌, List, [], ◌∷◌, ◌++◌, map, length, take, Some, None, Option, ◌==◌, nat_le, nat_lt, slice_index}
 use Rattle.std.specs.List.{slice_get}
 use Rattle.theory.specs.Lists.{any_of, count_of, up_from, each}
-use Rattle.theory.specs.Table.{Axiom, Table, Line, same_line, has_form}
+use Rattle.theory.specs.Table.{Axiom, Table, same_line, has_form}
 use Rattle.theory.specs.WellFormed.{counts_simple}
 use Rattle.layout.specs.declared.refusal.Refusal.{Refusal}
 use Rattle.layout.specs.declared.refusal.Refusal.TheVariants.{TooShort, SizeOutOfLimits, WrongLength, UnknownForm, BadArgument, Repeated, TooManyWitnesses, NotSimple}

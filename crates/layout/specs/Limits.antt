@@ -1,5 +1,5 @@
 -- What is taken for the sizes of a table and for one of its lines.
-use Rattle.std.specs.Prelude.{◌≡◌, ℕ, cond, not, List, [], Some, None, Ok, Err, Option, Result}
+use Rattle.std.specs.Prelude.{◌≡◌, ℕ, cond, not, List, Some, None, Ok, Err, Option, Result}
 use Rattle.theory.specs.Lists.{any_of}
 use Rattle.theory.specs.Table.{Table, Line, same_line, axiom_of}
 use Rattle.layout.specs.declared.axiom.Axiom.{Axiom}

@@ -1,4 +1,6 @@
 // The binary layout of a table: its sizes, its lines, and what they say.
+#![tactic(auto)]
+
 pub mod axiom;
 pub mod limits;
 pub mod line;

@@ -1,4 +1,6 @@
 // What a ledger is: facts about terms, held entry by entry, and a batch added to any ledger.
+#![tactic(auto)]
+
 mod batch;
 mod fact;
 mod laws;

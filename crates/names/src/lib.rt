@@ -1,4 +1,6 @@
 // Numbers of things, with their ranges in their types.
+#![tactic(auto)]
+
 ghost use Rattle.std.specs.Prelude.{◌<◌, ◌≤◌};
 
 /// The number of a concept, 0 to 32: 0 is ⊤, 1 is ⊥, and 32 is U, which no table declares.

@@ -6,7 +6,6 @@ use Rattle.graph.specs.Digraph.{Digraph, Step, Leads, stay, step, Walk}
 use Rattle.shapes.specs.Cycles.{DirectedCycle}
 use Rattle.graph.specs.Digraph.{◌∈◌, Distinct}
 use Rattle.shapes.specs.Heights.{MarkedPath, IsHeight, OneHeight, OneMore, Largest}
-use Rattle.graph.proofs.Walks.{one}
 use Rattle.graph.proofs.Pigeon.{pigeon}
 
 -- the first node leads to each

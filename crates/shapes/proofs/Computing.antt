@@ -1,16 +1,15 @@
 -- The tests that compute tell the truth.
-use Rattle.std.proofs.Common.{◌≡◌, ℕ, zero, suc, ◌<◌, ◌≤◌, max, Bool, true, false, cond, ◌&&◌, eqb, ◌⊎◌, List, [], ◌∷◌, length, Decides, refl, ap, subst, inl, inr, ⊎_elim, add-one, arith}
-use Rattle.std.proofs.lemmas.Bool.{both_ways, cases_Bool, cases_lt, eq-eqb, eqb-true, or_cases, or_left, or_right, and_parts, and_from, cond-true, cond-false}
+use Rattle.std.proofs.Common.{◌≡◌, ℕ, zero, suc, ◌<◌, ◌≤◌, max, Bool, true, false, cond, ◌⊎◌, Decides, refl, ap, subst, inl, inr, ⊎_elim, add-one, arith}
+use Rattle.std.proofs.lemmas.Bool.{cases_Bool, cases_lt, cond-true, cond-false}
 use Rattle.std.proofs.lemmas.Bool.Decides.{Decides-like, Decides-and, not_from_Decides}
 use Rattle.shapes.specs.declared.shape.Shape.TheVariants.{Forest, Acyclic, Cyclic}
-use Rattle.graph.specs.Digraph.{Digraph, Leads, stay, step, Walk}
+use Rattle.graph.specs.Digraph.{Digraph, Leads}
 use Rattle.shapes.specs.Views.{undirected, without}
 use Rattle.shapes.specs.Cycles.{Turns, DirectedCycle, UndirectedCycle, Rejoined}
-use Rattle.graph.specs.Digraph.{◌∈◌}
 use Rattle.shapes.specs.Heights.{IsHeight, OneMore, Largest}
 use Rattle.shapes.specs.Shapes.{Shaped}
 use Rattle.shapes.specs.Computed.{most_below, on_cycle, has_cycle, on_ring, has_ring, shape_of, best_in, height_of, Computes}
-use Rattle.graph.specs.Reached.{some_below, reached}
+use Rattle.graph.specs.Reached.{reached}
 use Rattle.graph.proofs.Computing.{some_below_decides, reach_computes}
 use Rattle.shapes.proofs.Rings.{cycle_joined, joined_cycle}
 use Rattle.shapes.proofs.Forests.{undirected_differ}

@@ -1,8 +1,8 @@
 -- The same by tests that compute, for graphs that are written out.
-use Rattle.std.specs.Prelude.{ℕ, zero, suc, ◌<◌, max, Bool, false, cond, ◌&&◌, ◌||◌, eqb, Decides}
+use Rattle.std.specs.Prelude.{ℕ, zero, suc, max, Bool, cond, ◌&&◌}
 use Rattle.shapes.specs.declared.shape.Shape.{Shape}
 use Rattle.shapes.specs.declared.shape.Shape.TheVariants.{Forest, Acyclic, Cyclic}
-use Rattle.graph.specs.Digraph.{Digraph, Leads}
+use Rattle.graph.specs.Digraph.{Digraph}
 use Rattle.graph.specs.Reached.{some_below, reached}
 use Rattle.shapes.specs.Views.{undirected, without}
 use Rattle.shapes.specs.Cycles.{DirectedCycle}

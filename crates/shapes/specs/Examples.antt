@@ -1,5 +1,5 @@
 -- Graphs that are written out.
-use Rattle.std.specs.Prelude.{ℕ, true, List, [], ◌∷◌, nat_lt}
+use Rattle.std.specs.Prelude.{true, [], ◌∷◌, nat_lt}
 use Rattle.shapes.specs.declared.shape.Shape.TheVariants.{Forest, Acyclic, Cyclic}
 use Rattle.graph.specs.Digraph.{Digraph}
 use Rattle.shapes.specs.Views.{edgeless, with_edges}

@@ -1,4 +1,6 @@
 // The shape of a graph, and the most marked nodes on one of its paths.
+#![tactic(auto)]
+
 mod height;
 pub mod laws;
 pub mod rows;

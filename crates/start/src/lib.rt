@@ -1,4 +1,6 @@
 // What judging a table starts from.
+#![tactic(auto)]
+
 mod adding;
 mod entries;
 mod listing;

@@ -1,14 +1,11 @@
 -- The stages of checking, put together.
-use Rattle.std.proofs.Common.{◌≡◌, ℕ, zero, suc, ◌+◌, ◌*◌, ◌<◌, ◌≤◌, Bool, true, false, cond, not, eqb, ltb, List, [], ◌∷◌, ◌++◌, map, length, get_or, take, drop, Some, None, Ok, Err, Option, Result, sym, refl, ap, ◌∙◌, subst, le_of_suc-le-suc, add-zero, add-suc, suc-add, zero-add, arith, get_or-drop, drop-drop}
-use Rattle.std.specs.List.{slice_get}
+use Rattle.std.proofs.Common.{◌≡◌, ℕ, zero, suc, ◌+◌, ◌*◌, ◌<◌, Bool, true, false, cond, List, [], ◌∷◌, ◌++◌, map, get_or, drop, Some, None, Ok, Err, Option, sym, refl, ap, ◌∙◌, le_of_suc-le-suc, add-zero, add-suc, suc-add, zero-add, arith, get_or-drop, drop-drop}
 use Rattle.std.proofs.lemmas.Bool.{cond-true, cond-false}
-use Rattle.std.proofs.lemmas.Bool.Decides.{nat_tests}
 use Rattle.theory.specs.Lists.{up_from, each}
-use Rattle.theory.specs.Table.{Table, Line, line, axiom_of}
+use Rattle.theory.specs.Table.{line}
 use Rattle.layout.specs.declared.refusal.Refusal.{Refusal}
-use Rattle.layout.specs.declared.refusal.Refusal.TheVariants.{TooShort, SizeOutOfLimits, WrongLength, UnknownForm, BadArgument, Repeated, TooManyWitnesses, NotSimple}
-use Rattle.layout.specs.Words.{word_at, axioms_in, record_at, line_at, lines_to, said, says}
-use Rattle.layout.specs.Checking.{applies, line_tests, header_tests, order, first}
+use Rattle.layout.specs.Words.{word_at, axioms_in, record_at, line_at, lines_to}
+use Rattle.layout.specs.Checking.{first}
 use Rattle.table.specs.Stages.{line_from, line_no, lines_no, FirstPlace}
 
 -- the first, or else the second

@@ -1,5 +1,5 @@
 -- What checking answers, by how far it came.
-use Rattle.std.proofs.Common.{◌≡◌, ℕ, ◌+◌, ◌-◌, ◌*◌, ◌<◌, ◌≤◌, Bool, true, false, cond, not, ◌&&◌, eqb, ltb, List, [], ◌∷◌, ◌++◌, map, length, take, drop, Some, None, Ok, Err, Option, Result, sym, refl, ap, ◌∙◌, subst, zero-add, arith, length-drop, length-take}
+use Rattle.std.proofs.Common.{◌≡◌, ℕ, ◌+◌, ◌-◌, ◌*◌, ◌<◌, ◌≤◌, true, false, cond, not, eqb, ltb, List, [], ◌∷◌, ◌++◌, map, length, take, drop, Some, None, Ok, Err, Option, Result, sym, refl, ap, ◌∙◌, subst, zero-add, arith, length-drop, length-take}
 use native.Mathlib.Nat.{sub-zero}
 use mathlib.Core.List.Memᴰ
 use Rattle.std.proofs.lemmas.Bool.{cond-true, cond-false, not-false}
@@ -15,17 +15,17 @@ use Rattle.layout.specs.declared.line.Kind.{Kind}
 use Rattle.layout.specs.declared.line.Kind.TheVariants.{Concept, Role, Individual, Unused}
 use Rattle.layout.specs.declared.line.Kinds.{Kinds}
 use Rattle.layout.specs.declared.sizes.Sizes.{Sizes}
-use Rattle.layout.specs.Checking.{applies, line_tests, header_tests, order, first, outcome, checked, accepted, refused}
-use Rattle.layout.specs.Forms.{kinds_of, has_kinds, limit, fits, fits_by, fits_line}
-use Rattle.layout.specs.Limits.{size_refusal, line_refusal}
+use Rattle.layout.specs.Checking.{applies, line_tests, header_tests, first, outcome, checked, accepted, refused}
+use Rattle.layout.specs.Forms.{kinds_of, has_kinds, limit, fits_by, fits_line}
+use Rattle.layout.specs.Limits.{line_refusal}
 use Rattle.layout.specs.Meaning.{axiom_in, table_of}
-use Rattle.layout.specs.Words.{word_at, axioms_in, line_at, lines_to, said, says}
+use Rattle.layout.specs.Words.{axioms_in, line_at, lines_to, said, says}
 use Rattle.theory.proofs.Accepting.{sizes_within}
 use Rattle.theory.proofs.Members.{all_of_decides}
 use Rattle.theory.proofs.Places.{each_in, up_in}
 use Rattle.layout.proofs.Fitting.{line-says}
 use Rattle.layout.proofs.Passing.{first-none}
-use Rattle.table.specs.Stages.{Header, sizes_of, line_no, lines_no, refusal_no, says_no, LinesRead, FirstPlace, too_many, not_simple}
+use Rattle.table.specs.Stages.{Header, sizes_of, lines_no, refusal_no, says_no, LinesRead, FirstPlace, too_many, not_simple}
 use Rattle.table.proofs.Checking.{passed, found, each_none, each_some, place_none, place_some, line-at, lines_at}
 
 abbrev size_tests : List Refusal

@@ -1,6 +1,5 @@
 -- The loop that reads lines, over plain lists.
-use Rattle.std.proofs.Common.{◌≡◌, ℕ, zero, suc, ◌+◌, ◌-◌, ◌*◌, ◌<◌, ◌≤◌, List, [], ◌∷◌, ◌++◌, map, length, take, drop, set, Some, None, Option, sym, refl, ap, ◌∙◌, subst, append_assoc, append-nil, add-zero, add-suc, suc-add, add-one, arith, length-drop, drop-drop}
-use native.Mathlib.Nat.{sub-zero}
+use Rattle.std.proofs.Common.{◌≡◌, ℕ, zero, suc, ◌+◌, ◌-◌, ◌*◌, ◌<◌, List, [], ◌∷◌, ◌++◌, map, length, take, drop, set, Some, Option, sym, refl, ap, ◌∙◌, append_assoc, append-nil, add-zero, add-suc, suc-add, add-one, arith, length-drop, drop-drop}
 use mathlib.Core.List.{map-append}
 use Rattle.std.proofs.lemmas.List.{take_more_set}
 use Rattle.theory.specs.Lists.{up_from, each}

@@ -1,5 +1,5 @@
 -- What is known of a well-formed table.
-use Rattle.std.proofs.Common.{◌≡◌, ℕ, ◌<◌, ◌≤◌, true, ◌⊎◌, List, map, Some, None, Decides, Option, sym, refl, ap, ◌∙◌, subst, inl, inr, ⊎_elim, arith, Bor}
+use Rattle.std.proofs.Common.{◌≡◌, ℕ, ◌<◌, ◌≤◌, true, ◌⊎◌, List, map, Some, None, Decides, Option, sym, refl, ap, subst, inl, inr, ⊎_elim, arith, Bor}
 use lib.ListN.{length-map}
 use Rattle.std.specs.List.{slice_get}
 use Rattle.std.specs.Option.{option_map}
@@ -7,9 +7,8 @@ use Rattle.std.specs.Slice.{IsGetResult}
 use Rattle.std.proofs.lemmas.Option.{slice_get_past}
 use Rattle.theory.proofs.Places.{nth_mapped}
 use Rattle.std.proofs.lemmas.Bool.Decides.{Decides-like}
-use Rattle.theory.specs.Lists.{◌∈◌}
-use Rattle.theory.specs.Table.{Table, transitive}
-use Rattle.theory.specs.Roles.{Expression, plain, name_of, Included, same, more, Simple, same_expression}
+use Rattle.theory.specs.Table.{Table}
+use Rattle.theory.specs.Roles.{Expression, name_of, Included, same, more, Simple, same_expression}
 use Rattle.theory.specs.WellFormed.{Declared, well_formed}
 use Rattle.theory.proofs.Accepting.{well_formed_decides}
 use Rattle.theory.proofs.Deciding.{same_expression_decides, transitive_declared}

@@ -1,5 +1,5 @@
 -- Checking by stages.
-use Rattle.std.specs.Prelude.{◌≡◌, ℕ, ◌+◌, ◌*◌, ◌<◌, ◌≤◌, Bool, true, false, not, ◌&&◌, List, [], ◌∷◌, map, length, take, drop, Some, None, Ok, Err, Option, Result, ◌==◌}
+use Rattle.std.specs.Prelude.{◌≡◌, ℕ, ◌+◌, ◌*◌, ◌<◌, ◌≤◌, Bool, true, false, not, ◌&&◌, List, map, length, take, drop, Some, None, Ok, Err, Option, Result, ◌==◌}
 use Rattle.std.specs.List.{slice_get}
 use Rattle.theory.specs.Lists.{count_of, up_from, each}
 use Rattle.theory.specs.Table as theory
@@ -10,7 +10,7 @@ use Rattle.layout.specs.declared.refusal.Refusal.{Refusal}
 use Rattle.layout.specs.declared.sizes.Sizes.{Sizes}
 use Rattle.layout.specs.Checking.{passes, checked, refused}
 use Rattle.layout.specs.Limits.{size_refusal, line_refusal}
-use Rattle.layout.specs.Meaning.{axiom_in, line_in}
+use Rattle.layout.specs.Meaning.{axiom_in}
 use Rattle.layout.specs.Words.{word_at, axioms_in, said}
 
 -- the first size of the bytes that is outside its limits

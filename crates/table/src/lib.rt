@@ -1,4 +1,6 @@
 // Checked tables and what is known of their roles.
+#![tactic(auto)]
+
 pub mod check;
 pub mod checked;
 pub mod expression;

@@ -1,3 +1,5 @@
+#![tactic(auto)]
+
 // Tests of checking, on tables that are written out.
 #[cfg(test)]
 mod bytes;

@@ -1,11 +1,11 @@
 -- Whether a table is well-formed is decided by the test that computes.
-use Rattle.std.proofs.Common.{◌≡◌, ℕ, ◌≤◌, Bool, true, not, ◌&&◌, eqb, leb, List, [], ◌∷◌, length, Decides, sym, refl, ap, ◌∙◌, inl, inr, ⊎_elim, arith}
+use Rattle.std.proofs.Common.{◌≡◌, ℕ, ◌≤◌, true, not, ◌&&◌, leb, List, [], ◌∷◌, length, Decides, sym, refl, ap, ◌∙◌, ⊎_elim, arith}
 use mathlib.Core.List.Memᴰ
-use Rattle.std.proofs.lemmas.Bool.{cases_Bool, and_parts, and_from, cond-true, cond-false}
+use Rattle.std.proofs.lemmas.Bool.{cases_Bool, and_parts, and_from, cond-false}
 use Rattle.std.proofs.lemmas.Bool.Decides.{nat_tests, Decides-eqb, Decides-and, Decides-not, Decides-like}
 use Rattle.theory.specs.Lists.{◌∈◌, any_of, all_of, count_of}
 use Rattle.theory.specs.Table.{Axiom, Table, Line, at_most_one, line_of, has_form, same_line}
-use Rattle.theory.specs.Roles.{Simple, is_simple}
+use Rattle.theory.specs.Roles.{Simple}
 use Rattle.theory.specs.WellFormed.{declares, Declared, Apart, WellFormed, sizes_fit, apart, counts_simple, well_formed}
 use Rattle.theory.specs.Laws.{TestsAreTrue}
 use Rattle.theory.proofs.Members.{any_of_decides, all_of_decides}

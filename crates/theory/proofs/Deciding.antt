@@ -1,15 +1,15 @@
 -- The tests that compute tell the truth.
-use Rattle.std.proofs.Common.{◌≡◌, ℕ, ◌+◌, ◌-◌, ◌<◌, ◌≤◌, Bool, true, false, cond, not, ◌&&◌, ◌||◌, eqb, ltb, leb, ◌⊎◌, Some, None, Decides, Option, sym, refl, ap, ◌∙◌, subst, inl, inr, ⊎_elim, arith, ltb-true}
+use Rattle.std.proofs.Common.{◌≡◌, ℕ, ◌+◌, ◌<◌, true, not, ◌&&◌, ◌||◌, eqb, ltb, Some, None, Decides, Option, sym, refl, ap, ◌∙◌, subst, ⊎_elim, arith, ltb-true}
 use mathlib.Core.List.Memᴰ
 use Rattle.std.specs.List.{slice_get}
-use Rattle.std.proofs.lemmas.Bool.{both_ways, cases_lt, cases_Bool, eq-eqb, eqb-true, or_cases, or_left, or_right, and_parts, and_from, cond-true, cond-false}
-use Rattle.std.proofs.lemmas.Bool.Decides.{nat_tests, Decides-eqb, Decides-and, Decides-or, Decides-not, Decides-like}
-use Rattle.graph.specs.Digraph.{Digraph, Step, Leads, stay, step}
+use Rattle.std.proofs.lemmas.Bool.{both_ways, or_cases, or_left, or_right, and_parts, and_from, cond-true, cond-false}
+use Rattle.std.proofs.lemmas.Bool.Decides.{nat_tests, Decides-eqb, Decides-and, Decides-not, Decides-like}
+use Rattle.graph.specs.Digraph.{Step, Leads, stay, step}
 use Rattle.graph.proofs.Computing.{reach_computes}
-use Rattle.theory.specs.Lists.{◌∈◌, any_of, all_of}
-use Rattle.theory.specs.Table.{Axiom, Table, transitive, filler, at_most_one, exists, line_of, has_form}
-use Rattle.theory.specs.Roles.{Expression, plain, inverse, name_of, Inclusion, within, inclusions, Included, same, more, Simple, UnsafeRole, counted, counted_back, filled, Unsafe, same_expression, is_inclusion, node_of, expression_at, includes_by, inclusion_graph, included, spoils, is_simple, endangers, has_unsafe, unsafe_in, is_unsafe}
-use Rattle.theory.specs.WellFormed.{declares, Declared}
+use Rattle.theory.specs.Lists.{◌∈◌, any_of}
+use Rattle.theory.specs.Table.{Axiom, Table, transitive, filler, at_most_one, exists}
+use Rattle.theory.specs.Roles.{Expression, plain, inverse, name_of, Inclusion, within, inclusions, Included, same, more, Simple, UnsafeRole, counted, counted_back, filled, Unsafe, same_expression, is_inclusion, node_of, expression_at, includes_by, inclusion_graph, included, spoils, is_simple, endangers, unsafe_in, is_unsafe}
+use Rattle.theory.specs.WellFormed.{Declared}
 use Rattle.theory.proofs.Members.{any_of_decides}
 use Rattle.theory.proofs.Places.{nth_in}
 use Rattle.theory.proofs.Forms.{inclusion_names, spoils_is, endangers_is, has_unsafe_is}

@@ -1,10 +1,10 @@
 -- What is known of an axiom's form: the only places that go through all twelve.
-use Rattle.std.proofs.Common.{◌≡◌, ℕ, ◌<◌, Bool, true, not, ◌&&◌, ◌||◌, eqb, ltb, ◌⊎◌, List, [], ◌∷◌, Some, sym, refl, ap, ◌∙◌, inl, inr, arith, ltb-true}
+use Rattle.std.proofs.Common.{◌≡◌, ℕ, ◌<◌, true, not, ◌&&◌, ◌||◌, eqb, ltb, ◌⊎◌, Some, refl, ap, inl, inr, arith, ltb-true}
 use mathlib.Core.List.Memᴰ
 use Rattle.std.proofs.lemmas.Bool.{both_ways, and_parts}
 use Rattle.theory.specs.Lists.{◌∈◌, any_of}
-use Rattle.theory.specs.Table.{Axiom, Table, Line, sub_role, sub_inverse, transitive, conjunction, nominal, filler, at_most_one, exists, range, has_value, open_concept, open_role, line_of, has_form, axiom_of}
-use Rattle.theory.specs.Roles.{Expression, plain, inverse, name_of, Inclusion, within, inclusions, included, spoils, endangers, has_unsafe}
+use Rattle.theory.specs.Table.{Axiom, Table, sub_role, sub_inverse, transitive, conjunction, nominal, filler, at_most_one, exists, range, has_value, open_concept, open_role, line_of, has_form, axiom_of}
+use Rattle.theory.specs.Roles.{Expression, plain, inverse, name_of, within, inclusions, included, spoils, endangers, has_unsafe}
 use Rattle.theory.specs.WellFormed.{declares}
 
 -- a line says the axiom whose line it is

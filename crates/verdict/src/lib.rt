@@ -1,4 +1,6 @@
 // What judging a table finds, and tables that have been judged.
+#![tactic(auto)]
+
 mod edges;
 mod judged;
 mod judgement;

@@ -1,4 +1,6 @@
 // What trials are made on.
+#![tactic(auto)]
+
 mod attempt;
 mod world;
 

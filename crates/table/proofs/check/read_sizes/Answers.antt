@@ -1,6 +1,5 @@
-use Rattle.std.proofs.Common.{◌≡◌, ◌*◌, ◌<◌, ◌≤◌, length, drop, sym, ap, ◌∙◌, subst, rules}
+use Rattle.std.proofs.Common.{◌*◌, ◌<◌, ◌≤◌, length, sym, ap, ◌∙◌, rules}
 use Rattle.std.proofs.lemmas.Result.{err_from_is_err_and}
-use Rattle.layout.specs.Limits.{SizesTaken}
 use Rattle.table.proofs.Deciding.{too_short, bad_size, wrong_length}
 use Rattle.table.proofs.Rest.{rest_all}
 use Rattle.table.proofs.check.read_sizes.Goals as goal

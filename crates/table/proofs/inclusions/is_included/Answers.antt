@@ -1,6 +1,4 @@
-use Rattle.std.proofs.Common.{◌+◌, ◌<◌, Decides, sym, ap, ◌∙◌, subst}
 use Rattle.std.proofs.lemmas.Bool.Decides.{same_from_decides}
-use Rattle.graph.specs.Digraph.{Leads}
 use Rattle.graph.proofs.Computing.{reach_computes}
 use Rattle.theory.specs.Roles.{node_of, inclusion_graph, included}
 use Rattle.theory.proofs.Deciding.{node_below}

@@ -1,8 +1,8 @@
-use Rattle.std.proofs.Common.{◌≡◌, ℕ, ◌+◌, ◌-◌, ◌*◌, ◌<◌, ◌≤◌, [], ◌∷◌, ◌++◌, map, length, take, drop, sym, refl, ap, ◌∙◌, add-zero, arith, length-set, below_more}
+use Rattle.std.proofs.Common.{◌+◌, ◌-◌, ◌*◌, ◌<◌, [], ◌∷◌, ◌++◌, map, take, drop, sym, refl, ap, ◌∙◌, add-zero, arith, length-set, below_more}
 use native.Mathlib.Nat.{sub-zero}
 use Rattle.std.proofs.lemmas.Result.{err_from_is_err_and}
 use Rattle.layout.specs.Meaning.{axiom_in, line_in, table_of}
-use Rattle.table.specs.Stages.{line_from, line_no, lines_no, refusal_no, says_no}
+use Rattle.table.specs.Stages.{line_no, lines_no}
 use Rattle.theory.specs.Table.{axiom_of}
 use Rattle.theory.proofs.Accepting.{sizes_within}
 use Rattle.table.proofs.Reading.{left_over, drop_on, mapped_more, stored_more, said_more, test_now, line_now}

@@ -1,4 +1,4 @@
-use Rattle.std.proofs.Common.{◌≡◌, ℕ, ◌+◌, ◌*◌, ◌<◌, ◌≤◌, [], map, length, take, drop, None}
+use Rattle.std.proofs.Common.{◌≡◌, ℕ, ◌+◌, ◌*◌, ◌<◌, [], map, length, take, drop, None}
 use Rattle.layout.specs.Meaning.{axiom_in, line_in, table_of}
 use Rattle.table.specs.Stages.{lines_no, says_no, refusal_no}
 use Rattle.table.proofs.lines.read_lines.Given as goal

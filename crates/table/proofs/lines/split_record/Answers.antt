@@ -1,4 +1,3 @@
-use Rattle.std.proofs.Common.{rules}
 use Rattle.table.proofs.Rest.{rest_all}
 use Rattle.table.proofs.lines.split_record.Goals as goal
 

@@ -1,4 +1,4 @@
-use Rattle.std.proofs.Common.{not, sym, ap, ◌∙◌}
+use Rattle.std.proofs.Common.{not, sym, ap}
 use Rattle.theory.specs.Roles.{spoils}
 use Rattle.theory.proofs.Scanning.{item_found, item_more, scan_all}
 use Rattle.theory.proofs.Members.{all_at}

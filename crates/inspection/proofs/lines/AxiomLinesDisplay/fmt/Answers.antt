@@ -1,4 +1,4 @@
-use Rattle.std.proofs.Common.{◌≡◌, ℕ, length, is_ok, refl, ap, arith}
+use Rattle.std.proofs.Common.{◌≡◌, length, is_ok, ap, arith}
 use Rattle.std.proofs.Output.{writes_in_calls_nil, has_written_append, has_written_of_eq}
 use Rattle.theory.specs.Lists.{up_from, each}
 use Rattle.table.specs.Answers.{meaning}

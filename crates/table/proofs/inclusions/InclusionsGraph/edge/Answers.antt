@@ -1,9 +1,7 @@
-use Rattle.std.proofs.Common.{◌≡◌, Bool, map, sym, ◌∙◌}
-use Rattle.theory.specs.Lists.{any_of}
-use Rattle.theory.specs.Roles.{Expression, expression_at, includes_by}
-use Rattle.theory.specs.Table.{Axiom}
+use Rattle.std.proofs.Common.{sym}
+use Rattle.theory.specs.Roles.{includes_by}
 use Rattle.theory.proofs.Scanning.{item_found, item_more, scan_all}
-use Rattle.layout.specs.Meaning.{axiom_in, table_of}
+use Rattle.layout.specs.Meaning.{axiom_in}
 use Rattle.table.specs.Meaning.{expression_in}
 use Rattle.table.proofs.inclusions.InclusionsGraph.edge.Goals as goal
 
