@@ -28,3 +28,7 @@ pub record VerdictOf (t : Table) (v : Verdict) : Type 0 where
   pub edges : EdgesOf t graph
   pub surveyed : Surveyed graph (unsafe_node t) v.shape v.height
   pub counted : v.unsafe_axioms ≡ length (unsafe_axioms t)
+
+-- a table has one verdict
+abbrev pub OneVerdict : Type 0
+OneVerdict = (t : Table) (v w : Verdict) → VerdictOf t v → VerdictOf t w → v ≡ w

@@ -10,5 +10,5 @@ mod verdict;
 pub use crate::edges::read_edges;
 pub use crate::judged::Judged;
 pub use crate::judgement::Judgement;
-pub use crate::laws::marked_verdicts;
+pub use crate::laws::{marked_verdicts, verdict_is_one};
 pub use crate::verdict::Verdict;
