@@ -111,8 +111,8 @@ fn spelt(fact: Fact) -> u64 {
 
 /// Puts a call to the ledger.
 fn ask<L: Ledger>(ledger: &mut L, call: Call) -> Answer
-    requires { valid ledger.old }
-    ensures { valid ledger.new }
+    requires { L.valid ledger.old }
+    ensures { L.valid ledger.new }
 {
     match call {
         Call::Empty => {
