@@ -26,6 +26,7 @@ OWN = {
     "getD-zeros": "get_or-zeros",
     "includes-by": "includes_by_decides",
     "is-inclusion": "is_inclusion_decides",
+    "line-at": "line_at_reads",
     "lodge-session": "lodge_session_stands",
     "record-at": "record_at_reads",
     "role-open": "role_open_decides",
@@ -38,6 +39,9 @@ OWN = {
     "unsafe-axioms": "unsafe_ones",
     "well-formed": "well_formed_decides",
 }
+# Lemmas on one function of another: here the dash stays.
+JOINED = set("""axiom_of-line_of get_or-nth get_or-zeros add-added add-grows add-short distinct-kept distinct-map distinct-take held-take joined-distinct kept-none length-codes length-each length-encode
+    length-held length-kept length-listed length-said map-map spare-set strike-distinct strike-length without-length""".split())
 # The same for names that the port's own script had made, in the crates where they are such.
 OWN_IN = {
     "held_in": ("held_in_is_held", ("start",)),
@@ -114,7 +118,7 @@ def spelt(name, types, known):
         return "".join(p[:1].upper() + p[1:] for p in re.split("[-_]", name))
     if "-" in name:
         left, _, right = name.partition("-")
-        if "-" not in right and snake(left) in known and snake(right) in known:
+        if name in JOINED:
             return snake(left) + "-" + snake(right)
         if name[:1].isupper():
             return name[: name.index("-")] + "-" + snake(right).replace("-", "_").lower()

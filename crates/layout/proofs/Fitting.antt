@@ -54,8 +54,8 @@ said_by t (suc (suc (suc (suc (suc (suc (suc (suc (suc (suc (suc zero)))))))))))
 said_by t (suc (suc (suc (suc (suc (suc (suc (suc (suc (suc (suc (suc zero)))))))))))) p q r s e = let (l, d) = one 12 p q r s t.roles e in (open_role p, refl, l, d)
 said_by t (suc (suc (suc (suc (suc (suc (suc (suc (suc (suc (suc (suc (suc f))))))))))))) p q r s e = absurd (both_ways _ refl e)
 
-pub line-says : (t : Table) (l : Line) → fits_line t l ≡ true → Says t l
-line-says t l e = said_by t l.form l.p l.q l.r l.s e
+pub line_says : (t : Table) (l : Line) → fits_line t l ≡ true → Says t l
+line_says t l e = said_by t l.form l.p l.q l.r l.s e
 
 -- and the line of such an axiom fits
 then_unused : (a b : Bool) → (a && b) ≡ true → (a && (b && true)) ≡ true

@@ -6,7 +6,7 @@ use Rattle.std.proofs.lemmas.List.{length-map}
 use Rattle.std.proofs.lemmas.Bool.{both_ways, and_parts, and_from, not-false, cases_Bool, cond-true, cond-false, eq-eqb, leb-true}
 use Rattle.std.proofs.lemmas.Bool.Decides.{nat_tests}
 use Rattle.theory.specs.Lists.{◌∈◌, any_of, count_of, up_from, each}
-use Rattle.theory.specs.Table.{Axiom, Table, Line, at_most_one, line_of, has_form, axiom_of, same_line}
+use Rattle.theory.specs.Table.{Axiom, Table, Line, at_most_one, line_of, has_form, axiom_of, same_line_decides}
 use Rattle.theory.specs.Roles.{Simple}
 use Rattle.theory.specs.WellFormed.{declares, Declared, Apart, WellFormed, counts_simple}
 use Rattle.theory.proofs.Members.{any_of_decides}
@@ -17,12 +17,12 @@ use Rattle.layout.specs.declared.refusal.Refusal.{Refusal}
 use Rattle.layout.specs.declared.refusal.Refusal.TheVariants.{TooShort, SizeOutOfLimits, WrongLength, UnknownForm, BadArgument, Repeated, TooManyWitnesses, NotSimple}
 use Rattle.layout.specs.Words.{word_at, axioms_in, line_at, lines_to, said, says}
 use Rattle.layout.specs.Checking.{size_fits, passes, applies, line_tests, header_tests, order, first, accepted, outcome, checked}
-use Rattle.layout.proofs.Fitting.{Says, line-says}
+use Rattle.layout.proofs.Fitting.{Says, line_says}
 
 -- none of a list applies just where there is no first
-pub first-none : (p : Refusal → Bool) (l : List Refusal) → first p l ≡ None → (f : Refusal) → f ∈ l → p f ≡ false
-first-none p [] e f m = elim m [ ]
-first-none p (g ∷ l) e f m = ⊎_elim here (go (first-none p l) f m) (cases_Bool (p g))
+pub first_none : (p : Refusal → Bool) (l : List Refusal) → first p l ≡ None → (f : Refusal) → f ∈ l → p f ≡ false
+first_none p [] e f m = elim m [ ]
+first_none p (g ∷ l) e f m = ⊎_elim here (go (first_none p l) f m) (cases_Bool (p g))
   where
     here : p g ≡ true → p f ≡ false
     here t = no_some (sym e ∙ cond-true (p g) (Some g) (first p l) t)
@@ -90,14 +90,14 @@ module _ (n : ℕ) where
       header (Memᴰ.tail (Memᴰ.tail (Memᴰ.tail (Memᴰ.tail (Memᴰ.tail (Memᴰ.head e)))))) = due_by f WrongLength e tt
       header (Memᴰ.tail (Memᴰ.tail (Memᴰ.tail (Memᴰ.tail (Memᴰ.tail (Memᴰ.tail m)))))) = elim m [ ]
 
-      at-line : (k : ℕ) → k < n → f ∈ line_tests k → Due n f
-      at-line k h (Memᴰ.head e) = due_by f (UnknownForm k) e h
-      at-line k h (Memᴰ.tail (Memᴰ.head e)) = due_by f (BadArgument k) e h
-      at-line k h (Memᴰ.tail (Memᴰ.tail (Memᴰ.head e))) = due_by f (Repeated k) e h
-      at-line k h (Memᴰ.tail (Memᴰ.tail (Memᴰ.tail m))) = elim m [ ]
+      at_line : (k : ℕ) → k < n → f ∈ line_tests k → Due n f
+      at_line k h (Memᴰ.head e) = due_by f (UnknownForm k) e h
+      at_line k h (Memᴰ.tail (Memᴰ.head e)) = due_by f (BadArgument k) e h
+      at_line k h (Memᴰ.tail (Memᴰ.tail (Memᴰ.head e))) = due_by f (Repeated k) e h
+      at_line k h (Memᴰ.tail (Memᴰ.tail (Memᴰ.tail m))) = elim m [ ]
 
       lines : f ∈ at_lines → Due n f
-      lines m = let (k, i, j) = each_in line_tests (up_from 0 n) f m in at-line k (up_below k i) j
+      lines m = let (k, i, j) = each_in line_tests (up_from 0 n) f m in at_line k (up_below k i) j
 
       witnesses : f ∈ at_witnesses → Due n f
       witnesses m = let (k, i, e) = Memᴰ.of_map TooManyWitnesses (up_from 0 n) m in due_by f (TooManyWitnesses k) (sym e) (up_below k i)
@@ -109,8 +109,8 @@ outcome_accepted : (t u : Table) (o : Option Refusal) → outcome t o ≡ accept
 outcome_accepted t u None e = (cc, refl)
 outcome_accepted t u (Some f) e = let z : ◌≡◌ {A = ℕ} 0 1 = cc in absurd (omega arith)
 
-pub none-applies : (bs : List ℕ) → first (applies bs) (order (axioms_in bs)) ≡ None → (f : Refusal) → f ∈ order (axioms_in bs) → applies bs f ≡ false
-none-applies bs = first-none (applies bs) (order (axioms_in bs))
+pub none_applies : (bs : List ℕ) → first (applies bs) (order (axioms_in bs)) ≡ None → (f : Refusal) → f ∈ order (axioms_in bs) → applies bs f ≡ false
+none_applies bs = first_none (applies bs) (order (axioms_in bs))
 
 pub accepted_says : (bs : List ℕ) (t : Table) → checked bs ≡ accepted t → t ≡ says bs
 accepted_says bs t e = (outcome_accepted (says bs) t _ e).0
@@ -134,10 +134,10 @@ nth_line bs n k h = nth_map (line_at bs) (up_from 0 n) k (0 + k) (nth_up 0 n k h
 
 module _ (bs : List ℕ) (none : first (applies bs) (order (axioms_in bs)) ≡ None) where
   due : (f : Refusal) → Due (axioms_in bs) f → applies bs f ≡ false
-  due f h = none-applies bs none f (in_order (axioms_in bs) f h)
+  due f h = none_applies bs none f (in_order (axioms_in bs) f h)
 
   says_at : (k : ℕ) → k < axioms_in bs → Says (says bs) (line_at bs k)
-  says_at k h = line-says (says bs) (line_at bs k) (not-false _ (due (BadArgument k) h))
+  says_at k h = line_says (says bs) (line_at bs k) (not-false _ (due (BadArgument k) h))
 
   pub said_lines : map line_of (says bs).axioms ≡ lines_to bs (axioms_in bs)
   said_lines = lines_said (says bs) (lines_to bs (axioms_in bs)) at
@@ -149,8 +149,8 @@ module _ (bs : List ℕ) (none : first (applies bs) (order (axioms_in bs)) ≡ N
   length-said = sym (length-map (says bs).axioms line_of) ∙ ap length said_lines ∙ length_lines bs (axioms_in bs)
 
   -- axiom k has line k
-  pub said-line : (k : ℕ) (a : Axiom) → slice_get (says bs).axioms k ≡ Some a → (k < axioms_in bs) × (line_of a ≡ line_at bs k)
-  said-line k a e =
+  pub said_line : (k : ℕ) (a : Axiom) → slice_get (says bs).axioms k ≡ Some a → (k < axioms_in bs) × (line_of a ≡ line_at bs k)
+  said_line k a e =
       let low : k < axioms_in bs = omega (arith, nth_below (says bs).axioms k a e, length-said) in
       let u = nth_map line_of (says bs).axioms k a e in
       let v = nth_line bs (axioms_in bs) k low in
@@ -160,41 +160,41 @@ module _ (bs : List ℕ) (none : first (applies bs) (order (axioms_in bs)) ≡ N
   said_declared : Declared (says bs)
   said_declared a m =
       let (k, at) = in_nth m in
-      let (h, e) = said-line k a at in
+      let (h, e) = said_line k a at in
       let (b, _, q, d) = says_at k h in
       let same = same_axiom a b (e ∙ sym q) in
       ap (declares (says bs)) same ∙ d
 
-  said-apart : Apart (says bs).axioms
-  said-apart =
+  said_apart : Apart (says bs).axioms
+  said_apart =
       apart_from (says bs).axioms
       (λ j k a h u v.
-      let (_, x) = said-line j a u in
-      let (low, y) = said-line k a v in
-      both_ways (any_of (same_line (line_at bs k)) (lines_to bs k)) (due (Repeated k) low)
-      ((any_of_decides (same_line (line_at bs k)) (lines_to bs k)).1 (line_at bs j, Memᴰ.map (line_at bs) (in_up 0 k j (omega arith) (omega arith)), (same_line_decides (line_at bs k) (line_at bs j)).1 (sym y ∙ x))))
+      let (_, x) = said_line j a u in
+      let (low, y) = said_line k a v in
+      both_ways (any_of (same_line_decides (line_at bs k)) (lines_to bs k)) (due (Repeated k) low)
+      ((any_of_decides (same_line_decides (line_at bs k)) (lines_to bs k)).1 (line_at bs j, Memᴰ.map (line_at bs) (in_up 0 k j (omega arith) (omega arith)), (same_line_decides (line_at bs k) (line_at bs j)).1 (sym y ∙ x))))
 
   said_few : count_of (has_form 8) (says bs).axioms ≤ 32
   said_few = omega (arith, count_limit (has_form 8) 32 (says bs).axioms 0 (omega arith) stops)
     where
       stops : (k : ℕ) (a : Axiom) → slice_get (says bs).axioms k ≡ Some a → has_form 8 a ≡ true → 0 + count_of (has_form 8) (take k (says bs).axioms) ≡ 32 → ⊥
       stops k a at q s =
-          let (low, _) = said-line k a at in
+          let (low, _) = said_line k a at in
           both_ways _ (due (TooManyWitnesses k) low)
           (and_from (passes (has_form 8) (slice_get (says bs).axioms k)) _ (ap (passes (has_form 8)) at ∙ q) (eq-eqb _ 32 (omega arith)))
 
   said_simple : (p q r : ℕ) → at_most_one p q r ∈ (says bs).axioms → Simple (says bs) q
   said_simple p q r m =
       let (k, at) = in_nth m in
-      let (low, _) = said-line k (at_most_one p q r) at in
+      let (low, _) = said_line k (at_most_one p q r) at in
       let passed = sym (ap (passes (λ a. not (counts_simple (says bs) a))) at) ∙ due (NotSimple k) low in
       counts_simple_reads (says bs) said_declared (at_most_one p q r) m (not-false (counts_simple (says bs) (at_most_one p q r)) passed) p q r refl
 
   size : (w : ℕ) → w < 4 → size_fits w (word_at bs w) ≡ true
   size w h = not-false _ (due (SizeOutOfLimits w) h)
 
-  pub said-length : length bs ≡ 8 + 10 * axioms_in bs
-  said-length = let h = not-false (eqb (length bs) (8 + 10 * axioms_in bs)) (due WrongLength tt) in grind (arith, nat_tests)
+  pub said_length : length bs ≡ 8 + 10 * axioms_in bs
+  said_length = let h = not-false (eqb (length bs) (8 + 10 * axioms_in bs)) (due WrongLength tt) in grind (arith, nat_tests)
 
   pub said_well_formed : WellFormed (says bs)
   said_well_formed =
@@ -208,7 +208,7 @@ module _ (bs : List ℕ) (none : first (applies bs) (order (axioms_in bs)) ≡ N
         individuals = (leb-true 1 (word_at bs 2) i, leb-true (word_at bs 2) 16 j);
         few = omega (arith, length-said, leb-true (axioms_in bs) 64 m);
         declared = said_declared;
-        apart = said-apart;
+        apart = said_apart;
         witnesses = said_few;
         simple = said_simple;
       }

@@ -5,10 +5,10 @@ use Rattle.std.specs.List.{slice_get}
 use Rattle.std.proofs.lemmas.List.{length-map, length-append, get_or_append_left, get_or-append-add}
 use Rattle.std.proofs.lemmas.Bool.{and_parts, and_from, cases_Bool, cases_lt, not_from_true, eq-eqb, eqb-true, le-leb, le-ltb}
 use Rattle.theory.specs.Lists.{any_of, count_of, up_from, each}
-use Rattle.theory.specs.Table.{Axiom, Table, Line, line_of, has_form, axiom_of, same_line}
+use Rattle.theory.specs.Table.{Axiom, Table, Line, line_of, has_form, axiom_of, same_line_decides}
 use Rattle.theory.specs.WellFormed.{WellFormed, counts_simple}
 use Rattle.theory.proofs.Members.{any_of_decides}
-use Rattle.theory.proofs.Places.{no_some, nth_in, nth_below, nth_some, nth_map, get_or-nth, same_places, up_in, apart-at, count_before}
+use Rattle.theory.proofs.Places.{no_some, nth_in, nth_below, nth_some, nth_map, get_or-nth, same_places, up_in, apart_at, count_before}
 use Rattle.theory.proofs.Forms.{axiom_of-line_of, same_axiom}
 use Rattle.theory.proofs.Accepting.{same_words, same_line_decides, simple_counts}
 use Rattle.layout.specs.declared.refusal.Refusal.{Refusal}
@@ -18,12 +18,12 @@ use Rattle.layout.specs.Words.{Bytes, word, word_at, axioms_in, record_at, line_
 use Rattle.layout.specs.Checking.{size_fits, passes, applies, order, first, accepted, outcome, checked}
 use Rattle.layout.specs.Encoding.{bytes_of, record_of, words_of, encode, ReadingInvertsWriting}
 use Rattle.layout.proofs.Fitting.{declared_fits, fits_has_kinds}
-use Rattle.layout.proofs.Passing.{Due, none_first, order_in, length_lines, nth_line, accepted_says, accepted_none, accepted_well_formed, length-said, said-line, said-length}
+use Rattle.layout.proofs.Passing.{Due, none_first, order_in, length_lines, nth_line, accepted_says, accepted_none, accepted_well_formed, length-said, said_line, said_length}
 
 -- ---- words and bytes
 
-word-further : (a b : ℕ) (l : List ℕ) (k : ℕ) → word_at (a ∷ b ∷ l) (suc k) ≡ word_at l k
-word-further a b l k =
+word_further : (a b : ℕ) (l : List ℕ) (k : ℕ) → word_at (a ∷ b ∷ l) (suc k) ≡ word_at l k
+word_further a b l k =
     let low : 2 * suc k ≡ suc (suc (2 * k)) = omega arith in
     let high : 2 * suc k + 1 ≡ suc (suc (2 * k + 1)) = omega arith in
     ap (λ i. word (get_or (a ∷ b ∷ l) i 0) (get_or (a ∷ b ∷ l) (2 * suc k + 1) 0)) low ∙ ap (λ i. word (get_or l (2 * k) 0) (get_or (a ∷ b ∷ l) i 0)) high
@@ -31,7 +31,7 @@ word-further a b l k =
 pub word_written : (ws : List ℕ) (k : ℕ) → word_at (each bytes_of ws) k ≡ get_or ws k 0
 word_written [] k = refl
 word_written (w ∷ ws) zero = omega arith
-word_written (w ∷ ws) (suc k) = word-further (w % 256) (w / 256) (each bytes_of ws) k ∙ word_written ws k
+word_written (w ∷ ws) (suc k) = word_further (w % 256) (w / 256) (each bytes_of ws) k ∙ word_written ws k
 
 length_written : (ws : List ℕ) → length (each bytes_of ws) ≡ 2 * length ws
 length_written [] = refl
@@ -50,7 +50,7 @@ bytes_written (w ∷ ws) (b ∷ c ∷ bs) n small h =
     let high : w / 256 ≡ c = omega arith in
     let rest =
     bytes_written ws bs (omega arith) (λ x m. small x (Memᴰ.tail (Memᴰ.tail m)))
-    (λ k l. h (suc k) (omega arith) ∙ word-further b c bs k) in
+    (λ k l. h (suc k) (omega arith) ∙ word_further b c bs k) in
     cc
 
 -- ---- the words of a table
@@ -152,15 +152,15 @@ module _ (t : Table) where
     size_written : (k : ℕ) (x : ℕ) → get_or (words_of t) k 0 ≡ x → size_fits k x ≡ true → applies bytes (SizeOutOfLimits k) ≡ false
     size_written k x e h = ap (λ x. not (size_fits k x)) (word_written (words_of t) k ∙ e) ∙ not_from_true _ h
 
-    fresh_written : (k : ℕ) → k < axioms_in bytes → any_of (same_line (line_at bytes k)) (lines_to bytes k) ≡ true → ⊥
+    fresh_written : (k : ℕ) → k < axioms_in bytes → any_of (same_line_decides (line_at bytes k)) (lines_to bytes k) ≡ true → ⊥
     fresh_written k h e =
-        let (l, m, q) = (any_of_decides (same_line (line_at bytes k)) (lines_to bytes k)).0 e in
+        let (l, m, q) = (any_of_decides (same_line_decides (line_at bytes k)) (lines_to bytes k)).0 e in
         let (j, i, is) = Memᴰ.of_map (line_at bytes) (up_from 0 k) m in
         let (_, low) = up_in 0 k j i in
         let (a, u) = axiom_at j (omega arith) in
         let (b, v) = axiom_at k h in
         let same = same_axiom a b (sym (line_written j a u) ∙ is ∙ sym ((same_line_decides (line_at bytes k) l).0 q) ∙ line_written k b v) in
-        apart-at t.axioms j k b w.apart (omega arith) (u ∙ ap Some same) v
+        apart_at t.axioms j k b w.apart (omega arith) (u ∙ ap Some same) v
 
     few_written : (k : ℕ) → k < axioms_in bytes → (passes (has_form 8) (slice_get t.axioms k) && eqb (count_of (has_form 8) (take k t.axioms)) 32) ≡ true → ⊥
     few_written k h e =
@@ -216,7 +216,7 @@ module _ (bs : List ℕ) (none : first (applies bs) (order (axioms_in bs)) ≡ N
       form : i < axioms_in bs → get_or (words_of table) (4 + i) 0 ≡ word_at bs (4 + i)
       form low =
           let (a, at) = nth_some table.axioms i (omega (arith, length-said bs none)) in
-          form_word table i a at ∙ ap (λ (l : Line). l.form) (said-line bs none i a at).1
+          form_word table i a at ∙ ap (λ (l : Line). l.form) (said_line bs none i a at).1
 
       arguments : axioms_in bs ≤ i → get_or (words_of table) (4 + i) 0 ≡ word_at bs (4 + i)
       arguments past =
@@ -224,7 +224,7 @@ module _ (bs : List ℕ) (none : first (applies bs) (order (axioms_in bs)) ≡ N
           let r = (i - axioms_in bs) % 4 in
           let (a, at) = nth_some table.axioms k (omega (arith, length-said bs none)) in
           record_word table k a r (4 + i) at (omega arith) (omega (arith, length-said bs none))
-          ∙ record_read k a r (said-line bs none k a at).1 (omega arith) ∙ ap (word_at bs) (omega arith)
+          ∙ record_read k a r (said_line bs none k a at).1 (omega arith) ∙ ap (word_at bs) (omega arith)
 
   words_read : (i : ℕ) → i < length (words_of table) → get_or (words_of table) i 0 ≡ word_at bs i
   words_read zero h = refl
@@ -236,7 +236,7 @@ module _ (bs : List ℕ) (none : first (applies bs) (order (axioms_in bs)) ≡ N
       subst (λ j. get_or (words_of table) j 0 ≡ word_at bs j) at (word_read i (omega (arith, length_words table, length-said bs none)))
 
   pub bytes_written_back : Bytes bs → encode table ≡ bs
-  bytes_written_back small = bytes_written (words_of table) bs (omega (arith, length_words table, length-said bs none, said-length bs none)) small words_read
+  bytes_written_back small = bytes_written (words_of table) bs (omega (arith, length_words table, length-said bs none, said_length bs none)) small words_read
 
 pub reading_inverts_writing : ReadingInvertsWriting
 reading_inverts_writing =

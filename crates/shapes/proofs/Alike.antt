@@ -21,8 +21,8 @@ back : {g h : Digraph} → Alike g h → Alike h g
 back a = let e = a.nodes in record { nodes = sym e; edges = λ x y i j. sym (a.edges x y (omega arith) (omega arith)) }
 
 -- with each edge taken both ways
-undirected-alike : {g h : Digraph} → Alike g h → Alike (undirected g) (undirected h)
-undirected-alike a = record { nodes = a.nodes; edges = λ x y i j. ap₂ (λ p q. p || q) (a.edges x y i j) (a.edges y x j i) }
+undirected_alike : {g h : Digraph} → Alike g h → Alike (undirected g) (undirected h)
+undirected_alike a = record { nodes = a.nodes; edges = λ x y i j. ap₂ (λ p q. p || q) (a.edges x y i j) (a.edges y x j i) }
 
 -- an edge of one is an edge of the other
 steps : {g h : Digraph} → Alike g h → (x y : ℕ) → Step g x y → Step h x y
@@ -49,8 +49,8 @@ ring a r = record {
   z = r.z;
   three = r.three;
   distinct = r.distinct;
-  around = map_walk (steps (undirected-alike a)) r.a r.l r.z r.around;
-  home = steps (undirected-alike a) r.z r.a r.home;
+  around = map_walk (steps (undirected_alike a)) r.a r.l r.z r.around;
+  home = steps (undirected_alike a) r.z r.a r.home;
 }
 
 -- so what is the shape of one is that of the other

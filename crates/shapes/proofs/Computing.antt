@@ -28,8 +28,8 @@ module _ (g : Digraph) where
       (some_below_decides (on_cycle g) (Turns g) g.nodes turns_computes)
 
 module _ (g : Digraph) (free : DirectedCycle g → ⊥) where
-  joined-computes : (a : ℕ) → a < g.nodes → Decides (on_ring g a) (Rejoined g a)
-  joined-computes a h =
+  joined_computes : (a : ℕ) → a < g.nodes → Decides (on_ring g a) (Rejoined g a)
+  joined_computes a h =
       Decides-like {P = (b : ℕ) × (b < g.nodes) × (((undirected g).edge a b ≡ true) × Leads (without (undirected g) a b) a b)} (on_ring g a)
       (λ (b, i, (e, p)). (b, record { from = h; to = i; runs = e }, p)) (λ (b, s, p). (b, s.to, (s.runs, p)))
       (some_below_decides _ (λ b. ((undirected g).edge a b ≡ true) × Leads (without (undirected g) a b) a b) g.nodes
@@ -39,7 +39,7 @@ module _ (g : Digraph) (free : DirectedCycle g → ⊥) where
   ring_computes =
       Decides-like {P = (a : ℕ) × (a < g.nodes) × Rejoined g a} (has_ring g)
       (λ (a, h, (b, s, p)). joined_cycle g a b (undirected_differ g free a b s) s p) (λ r. let (a, j) = cycle_joined g r in (a, j.1.from, j))
-      (some_below_decides (on_ring g) (Rejoined g) g.nodes joined-computes)
+      (some_below_decides (on_ring g) (Rejoined g) g.nodes joined_computes)
 
 pub shape_computes : (g : Digraph) → Shaped g (shape_of g)
 shape_computes g = go (has_cycle g) (has_ring g) (cycle_computes g) (ring_computes g)

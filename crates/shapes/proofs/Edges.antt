@@ -17,8 +17,8 @@ back both (step s p) = join (back both p) (one (both _ _ s))
 pub there : {g : Digraph} {x y : ℕ} → Step g x y → Step (undirected g) x y
 there s = record { from = s.from; to = s.to; runs = or_left _ _ s.runs }
 
-pub undirected-both : (g : Digraph) → BothWays (undirected g)
-undirected-both g x y s = record {
+pub undirected_both : (g : Digraph) → BothWays (undirected g)
+undirected_both g x y s = record {
   from = s.to;
   to = s.from;
   runs = ⊎_elim (λ e. or_right (g.edge y x) (g.edge x y) e) (λ e. or_left (g.edge y x) (g.edge x y) e) (or_cases (g.edge x y) (g.edge y x) s.runs);
@@ -43,12 +43,12 @@ module _ (g : Digraph) (a b : ℕ) {x y : ℕ} where
   pub kept : Step (without g a b) x y → Step g x y
   kept s = record { from = s.from; to = s.to; runs = ((decides_without g a b x y).0 s.runs).1 }
 
-  pub not-both : Step (without g a b) x y → AreBoth a b x y → ⊥
-  not-both s = ((decides_without g a b x y).0 s.runs).0
+  pub not_both : Step (without g a b) x y → AreBoth a b x y → ⊥
+  not_both s = ((decides_without g a b x y).0 s.runs).0
 
 swapped : {a b x y : ℕ} → AreBoth a b x y → AreBoth a b y x
 swapped (inl (p, q)) = inr (q, p)
 swapped (inr (p, q)) = inl (q, p)
 
-pub without-both : (g : Digraph) (a b : ℕ) → BothWays g → BothWays (without g a b)
-without-both g a b both x y s = keeps g a b (λ h. not-both g a b s (swapped h)) (both x y (kept g a b s))
+pub without_both : (g : Digraph) (a b : ℕ) → BothWays g → BothWays (without g a b)
+without_both g a b both x y s = keeps g a b (λ h. not_both g a b s (swapped h)) (both x y (kept g a b s))

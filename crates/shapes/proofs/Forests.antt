@@ -6,7 +6,7 @@ use Rattle.shapes.specs.Views.{undirected, without}
 use Rattle.shapes.specs.Cycles.{DirectedCycle, UndirectedCycle}
 use Rattle.shapes.specs.Laws.{UniquePaths, Antisymmetric}
 use Rattle.graph.proofs.Walks.{join, one, walk_leads}
-use Rattle.shapes.proofs.Edges.{back, there, undirected-both, without-both, AreBoth, keeps}
+use Rattle.shapes.proofs.Edges.{back, there, undirected_both, without_both, AreBoth, keeps}
 use Rattle.shapes.proofs.Rings.{joined_cycle}
 
 pub antisymmetric : Antisymmetric
@@ -37,7 +37,7 @@ fork g free a b c d s p t q ne =
     joined_cycle g a c (ends_differ g free a c s) (there s)
     (step (keeps (undirected g) a c off (there t))
     (join (aside g a c (λ r. free (a, (d, t, r))) q)
-    (back (without-both (undirected g) a c (undirected-both g)) (aside g a c (λ r. free (a, (c, s, r))) p))))
+    (back (without_both (undirected g) a c (undirected_both g)) (aside g a c (λ r. free (a, (c, s, r))) p))))
   where
     off : AreBoth a c a d → ⊥
     off (inl (e, f)) = ne (sym f)

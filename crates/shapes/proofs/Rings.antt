@@ -6,7 +6,7 @@ use Rattle.shapes.specs.Views.{undirected, without}
 use Rattle.shapes.specs.Cycles.{UndirectedCycle, Rejoined}
 use Rattle.graph.specs.Digraph.{◌∈◌, Distinct}
 use Rattle.graph.proofs.Walks.{leads_walk, map_walk}
-use Rattle.shapes.proofs.Edges.{undirected-both, AreBoth, keeps, kept, not-both}
+use Rattle.shapes.proofs.Edges.{undirected_both, AreBoth, keeps, kept, not_both}
 use Rattle.graph.proofs.Direct.{direct}
 
 last_in : (g : Digraph) (a x : ℕ) (l : List ℕ) (b : ℕ) → Walk g a (x ∷ l) b → b ∈ (x ∷ l)
@@ -26,7 +26,7 @@ ring_joined : (g : Digraph) (a : ℕ) (l : List ℕ) (z : ℕ) → 3 ≤ length 
 ring_joined g a [] z three d w s = absurd (omega arith)
 ring_joined g a (x ∷ []) z three d w s = absurd (omega arith)
 ring_joined g a (x ∷ y ∷ l) z three d (t, w) s =
-    (z, undirected-both g z a s, step (keeps (undirected g) a z off t) (away (undirected g) a z x (y ∷ l) z w d.0))
+    (z, undirected_both g z a s, step (keeps (undirected g) a z off t) (away (undirected g) a z x (y ∷ l) z w d.0))
   where
     off : AreBoth a z a x → ⊥
     off (inl (p, q)) = d.1.0 (Memᴰ.cast q (last_in (undirected g) x y l z w))
@@ -37,7 +37,7 @@ cycle_joined g r = (r.a, ring_joined g r.a r.l r.z r.three r.distinct r.around r
 
 simple_ring : (g : Digraph) (a b : ℕ) → (a ≡ b → ⊥) → Step (undirected g) a b → (k : List ℕ) → Walk (without (undirected g) a b) a k b → Distinct (a ∷ k) → UndirectedCycle g
 simple_ring g a b ne s [] w d = absurd (ne w)
-simple_ring g a b ne s (x ∷ []) w d = absurd (not-both (undirected g) a b w.0 (inl (refl, w.1)))
+simple_ring g a b ne s (x ∷ []) w d = absurd (not_both (undirected g) a b w.0 (inl (refl, w.1)))
 simple_ring g a b ne s (x ∷ y ∷ k) w d = record {
   a = a;
   l = x ∷ y ∷ k;
@@ -45,7 +45,7 @@ simple_ring g a b ne s (x ∷ y ∷ k) w d = record {
   three = omega arith;
   distinct = d;
   around = map_walk (λ u v t. kept (undirected g) a b t) a (x ∷ y ∷ k) b w;
-  home = undirected-both g a b s;
+  home = undirected_both g a b s;
 }
 
 pub joined_cycle : (g : Digraph) (a b : ℕ) → (a ≡ b → ⊥) → Step (undirected g) a b → Leads (without (undirected g) a b) a b → UndirectedCycle g

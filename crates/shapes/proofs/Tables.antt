@@ -14,8 +14,8 @@ blank zero k x = inr refl
 blank (suc m) k zero = inl refl
 blank (suc m) k (suc x) = blank m k x
 
-pub tabled-none : (m k n : ℕ) → tabled (replicate m (replicate k false)) n ≡ edgeless n
-tabled-none m k n =
+pub tabled_none : (m k n : ℕ) → tabled (replicate m (replicate k false)) n ≡ edgeless n
+tabled_none m k n =
     same_edges n _ _
     (λ x y. ⊎_elim (λ e. ap (λ r. get_or r y false) e ∙ unset k y) (λ e. ap (λ r. get_or r y false) e) (blank m k x))
 

@@ -10,15 +10,15 @@ use Rattle.start.specs.Starting.{asks_witness, terms_to}
 use Rattle.chase.specs.Judging.{unsafe_term}
 use Rattle.start.proofs.Witnesses.{terms_one, terms_none}
 
-none-set : (n i : ℕ) → get_or (replicate n false) i false ≡ false
-none-set zero i = refl
-none-set (suc n) zero = refl
-none-set (suc n) (suc i) = none-set n i
+none_set : (n i : ℕ) → get_or (replicate n false) i false ≡ false
+none_set zero i = refl
+none_set (suc n) zero = refl
+none_set (suc n) (suc i) = none_set n i
 
 -- no mark stands at first
 pub unmarked : (t : Table) (n i : ℕ) → get_or (replicate n false) i false ≡ unsafe_term t (term_at (terms_to t 0) i)
-unmarked t n zero = none-set n zero
-unmarked t n (suc i) = none-set n (suc i)
+unmarked t n zero = none_set n zero
+unmarked t n (suc i) = none_set n (suc i)
 
 -- one thing more, and its mark
 pub marked : {A : Type 0} (f : A → Bool) (d : A) (l : List A) (a : A) (marks : List Bool) (n : ℕ) → f d ≡ false → n ≡ length l → n < length marks → ((i : ℕ) → get_or marks i false ≡ f (get_or l i d)) → (i : ℕ) → get_or (set marks n (f a)) i false ≡ f (get_or (l ++ (a ∷ [])) i d)
@@ -42,8 +42,8 @@ abbrev pub Marks : Table → List Bool → ℕ → ℕ → Type 0
 Marks t marks next k = (length marks ≡ 48) × (next ≡ length (terms_to t k)) × ((i : ℕ) → get_or marks i false ≡ unsafe_term t (term_at (terms_to t k) i))
 
 module _ (t : Table) (marks : List Bool) (next k : ℕ) (so_far : Marks t marks next k) where
-  pub marks-one : (b : Bool) → asks_witness t k ≡ true → length (terms_to t k) ≤ 32 → b ≡ is_unsafe t k → Marks t (set marks next b) (next + 1) (k + 1)
-  marks-one b asks few is =
+  pub marks_one : (b : Bool) → asks_witness t k ≡ true → length (terms_to t k) ≤ 32 → b ≡ is_unsafe t k → Marks t (set marks next b) (next + 1) (k + 1)
+  marks_one b asks few is =
       let more = terms_one t k asks in (
         length-set marks next b ∙ so_far.0,
         ap (λ n. n + 1) so_far.1 ∙ sym (ap length more ∙ length_push (terms_to t k) (shared k)),
@@ -53,5 +53,5 @@ module _ (t : Table) (marks : List Bool) (next k : ℕ) (so_far : Marks t marks 
             ∙ ap (λ l. unsafe_term t (term_at l i)) (sym more),
       )
 
-  pub marks-none : asks_witness t k ≡ false → Marks t marks next (k + 1)
-  marks-none asks = subst (λ l. (length marks ≡ 48) × (next ≡ length l) × ((i : ℕ) → get_or marks i false ≡ unsafe_term t (term_at l i))) (sym (terms_none t k asks)) so_far
+  pub marks_none : asks_witness t k ≡ false → Marks t marks next (k + 1)
+  marks_none asks = subst (λ l. (length marks ≡ 48) × (next ≡ length l) × ((i : ℕ) → get_or marks i false ≡ unsafe_term t (term_at l i))) (sym (terms_none t k asks)) so_far

@@ -18,8 +18,8 @@ module _ (p : Axiom → Bool) where
     pub found : k < length l → passes p (slice_get l k) ≡ true → true ≡ any_of p l
     found h e = sym (or_left _ _ e) ∙ sym (step l k h) ∙ left
 
-    pub not-here : k < length l → passes p (slice_get l k) ≡ false → any_of p (drop (k + 1) l) ≡ any_of p l
-    not-here h e = ap (λ b. b || any_of p (drop (k + 1) l)) (sym e) ∙ sym (step l k h) ∙ left
+    pub not_here : k < length l → passes p (slice_get l k) ≡ false → any_of p (drop (k + 1) l) ≡ any_of p l
+    not_here h e = ap (λ b. b || any_of p (drop (k + 1) l)) (sym e) ∙ sym (step l k h) ∙ left
 
     pub nowhere : length l ≤ k → false ≡ any_of p l
     nowhere h = sym (ap (any_of p) (drop_all k l h)) ∙ left

@@ -44,9 +44,9 @@ module _ (p : Refusal → Bool) where
         ∙ each_some (suc from) n k f (le_of_suc-le-suc h) (ap (λ j. first p (g j)) (suc-add from k ∙ sym (add-suc from k)) ∙ e)
         (λ j l. ap (λ i. first p (g i)) (suc-add from j ∙ sym (add-suc from j)) ∙ before (suc j) (omega arith))
 
-each-one : (made : ℕ → Refusal) (ks : List ℕ) → map made ks ≡ each (λ k. made k ∷ []) ks
-each-one made [] = refl
-each-one made (k ∷ ks) = ap (λ l. made k ∷ l) (each-one made ks)
+each_one : (made : ℕ → Refusal) (ks : List ℕ) → map made ks ≡ each (λ k. made k ∷ []) ks
+each_one made [] = refl
+each_one made (k ∷ ks) = ap (λ l. made k ∷ l) (each_one made ks)
 
 -- the first place as the first refusal
 module _ (p : Refusal → Bool) (made : ℕ → Refusal) (test : ℕ → Bool) (is : (k : ℕ) → p (made k) ≡ test k) (n : ℕ) where
@@ -54,30 +54,30 @@ module _ (p : Refusal → Bool) (made : ℕ → Refusal) (test : ℕ → Bool) (
   one_none k e = cond-false (p (made (0 + k))) _ None (ap (λ j. p (made j)) (zero-add k) ∙ is k ∙ e)
 
   pub place_none : (r : Unit {0}) → FirstPlace test made n (Ok r) → first p (map made (up_from 0 n)) ≡ None
-  place_none r h = ap (first p) (each-one made (up_from 0 n)) ∙ each_none p (λ k. made k ∷ []) 0 n (λ k l. one_none k (h k l))
+  place_none r h = ap (first p) (each_one made (up_from 0 n)) ∙ each_none p (λ k. made k ∷ []) 0 n (λ k l. one_none k (h k l))
 
   pub place_some : (f : Refusal) → FirstPlace test made n (Err f) → first p (map made (up_from 0 n)) ≡ Some f
   place_some f (k, l, e, q, before) =
-      ap (first p) (each-one made (up_from 0 n))
+      ap (first p) (each_one made (up_from 0 n))
       ∙ each_some p (λ k. made k ∷ []) 0 n k f l (cond-true (p (made (0 + k))) _ None (ap (λ j. p (made j)) (zero-add k) ∙ is k ∙ e) ∙ ap (λ j. Some (made j)) (zero-add k) ∙ ap Some (sym q))
       (λ j h. one_none j (before j h))
 
 -- words after some that are dropped
-word-drop : (bs : List ℕ) (m i : ℕ) → word_at (drop (2 * m) bs) i ≡ word_at bs (m + i)
-word-drop bs m i =
+word_drop : (bs : List ℕ) (m i : ℕ) → word_at (drop (2 * m) bs) i ≡ word_at bs (m + i)
+word_drop bs m i =
     let low : 2 * m + 2 * i ≡ 2 * (m + i) = omega arith in
     let high : 2 * m + (2 * i + 1) ≡ 2 * (m + i) + 1 = omega arith in
     ap (λ x. x + 256 * get_or (drop (2 * m) bs) (2 * i + 1) 0) (get_or-drop (2 * m) bs (2 * i) 0 ∙ ap (λ j. get_or bs j 0) low)
     ∙ ap (λ x. get_or bs (2 * (m + i)) 0 + 256 * x) (get_or-drop (2 * m) bs (2 * i + 1) 0 ∙ ap (λ j. get_or bs j 0) high)
 
-pub line-at : (bs : List ℕ) (k : ℕ) → line_no (drop 8 bs) (axioms_in bs) k ≡ line_at bs k
-line-at bs k =
+pub line_at_reads : (bs : List ℕ) (k : ℕ) → line_no (drop 8 bs) (axioms_in bs) k ≡ line_at bs k
+line_at_reads bs k =
     let n = axioms_in bs in
     let forms : drop (2 * k) (drop 8 bs) ≡ drop (2 * (4 + k)) bs = drop-drop (2 * k) 8 bs ∙ ap (λ j. drop j bs) (omega arith) in
     let records : drop (2 * n + 8 * k) (drop 8 bs) ≡ drop (2 * record_at bs k) bs = drop-drop (2 * n + 8 * k) 8 bs ∙ ap (λ j. drop j bs) (omega arith) in
     ap (λ x. line_from (word_at x 0) (drop (2 * n + 8 * k) (drop 8 bs))) forms
     ∙ ap (λ x. line_from (word_at (drop (2 * (4 + k)) bs) 0) x) records
-    ∙ together (word-drop bs (4 + k) 0 ∙ ap (word_at bs) (add-zero (4 + k))) (word-drop bs (record_at bs k) 0 ∙ ap (word_at bs) (add-zero (record_at bs k))) (word-drop bs (record_at bs k) 1) (word-drop bs (record_at bs k) 2) (word-drop bs (record_at bs k) 3)
+    ∙ together (word_drop bs (4 + k) 0 ∙ ap (word_at bs) (add-zero (4 + k))) (word_drop bs (record_at bs k) 0 ∙ ap (word_at bs) (add-zero (record_at bs k))) (word_drop bs (record_at bs k) 1) (word_drop bs (record_at bs k) 2) (word_drop bs (record_at bs k) 3)
   where
     together : {f g p q r s p' q' r' s' : ℕ} → f ≡ g → p ≡ p' → q ≡ q' → r ≡ r' → s ≡ s' → line f p q r s ≡ line g p' q' r' s'
     together a b c d e = cc
@@ -87,4 +87,4 @@ lines_at bs k = go (up_from 0 k)
   where
     go : (ks : List ℕ) → map (line_no (drop 8 bs) (axioms_in bs)) ks ≡ map (line_at bs) ks
     go [] = refl
-    go (j ∷ ks) = let a = line-at bs j in let b = go ks in cc
+    go (j ∷ ks) = let a = line_at_reads bs j in let b = go ks in cc

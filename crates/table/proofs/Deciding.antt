@@ -23,31 +23,31 @@ use Rattle.layout.specs.Words.{axioms_in, line_at, lines_to, said, says}
 use Rattle.theory.proofs.Accepting.{sizes_within}
 use Rattle.theory.proofs.Members.{all_of_decides}
 use Rattle.theory.proofs.Places.{each_in, up_in}
-use Rattle.layout.proofs.Fitting.{line-says}
-use Rattle.layout.proofs.Passing.{first-none}
+use Rattle.layout.proofs.Fitting.{line_says}
+use Rattle.layout.proofs.Passing.{first_none}
 use Rattle.table.specs.Stages.{Header, sizes_of, lines_no, refusal_no, says_no, LinesRead, FirstPlace, too_many, not_simple}
-use Rattle.table.proofs.Checking.{passed, found, each_none, each_some, place_none, place_some, line-at, lines_at}
+use Rattle.table.proofs.Checking.{passed, found, each_none, each_some, place_none, place_some, line_at_reads, lines_at}
 
 abbrev size_tests : List Refusal
 size_tests = SizeOutOfLimits 0 ∷ SizeOutOfLimits 1 ∷ SizeOutOfLimits 2 ∷ SizeOutOfLimits 3 ∷ []
 
 -- limits go by the sizes alone
-same-limit : (t u : Table) → t.concepts ≡ u.concepts → t.roles ≡ u.roles → t.individuals ≡ u.individuals → (k : Kind) → limit t k ≡ limit u k
-same-limit t u c r i Concept = c
-same-limit t u c r i Role = r
-same-limit t u c r i Individual = i
-same-limit t u c r i Unused = refl
+same_limit : (t u : Table) → t.concepts ≡ u.concepts → t.roles ≡ u.roles → t.individuals ≡ u.individuals → (k : Kind) → limit t k ≡ limit u k
+same_limit t u c r i Concept = c
+same_limit t u c r i Role = r
+same_limit t u c r i Individual = i
+same_limit t u c r i Unused = refl
 
-same-fits : (t u : Table) → t.concepts ≡ u.concepts → t.roles ≡ u.roles → t.individuals ≡ u.individuals → (l : Line) → fits_line t l ≡ fits_line u l
-same-fits t u c r i l = go (kinds_of l.form)
+same_fits : (t u : Table) → t.concepts ≡ u.concepts → t.roles ≡ u.roles → t.individuals ≡ u.individuals → (l : Line) → fits_line t l ≡ fits_line u l
+same_fits t u c r i l = go (kinds_of l.form)
   where
     go : (o : Option Kinds) → fits_by t o l ≡ fits_by u o l
     go None = refl
     go (Some k) =
-        let a = same-limit t u c r i k.p in
-        let b = same-limit t u c r i k.q in
-        let d = same-limit t u c r i k.r in
-        let e = same-limit t u c r i k.s in
+        let a = same_limit t u c r i k.p in
+        let b = same_limit t u c r i k.q in
+        let d = same_limit t u c r i k.r in
+        let e = same_limit t u c r i k.s in
         cc
 
 -- what comes after the header
@@ -89,13 +89,13 @@ module _ (bs : List ℕ) where
     test_at : (k : ℕ) → refusal_no (table_of z []) (drop 8 bs) z.axioms k ≡ first (applies bs) (line_tests k)
     test_at k =
         ap (λ n. refusal_no (table_of z []) (drop 8 bs) n k) header.axioms
-        ∙ ap (λ l. line_refusal (table_of z []) (lines_no (drop 8 bs) (axioms_in bs) k) k l) (line-at bs k)
+        ∙ ap (λ l. line_refusal (table_of z []) (lines_no (drop 8 bs) (axioms_in bs) k) k l) (line_at_reads bs k)
         ∙ ap (λ ls. line_refusal (table_of z []) ls k (line_at bs k)) (lines_at bs k)
         ∙ ap
         (λ b.
         cond (not (has_kinds (kinds_of (line_at bs k).form))) (Some (UnknownForm k))
         (cond (not b) (Some (BadArgument k)) (cond (any_of (same_line (line_at bs k)) (lines_to bs k)) (Some (Repeated k)) None)))
-        (same-fits (table_of z []) (says bs) header.concepts header.roles header.individuals (line_at bs k))
+        (same_fits (table_of z []) (says bs) header.concepts header.roles header.individuals (line_at bs k))
 
     header_passed : checked bs ≡ outcome (says bs) (first (applies bs) (later (axioms_in bs)))
     header_passed = ap (outcome (says bs)) (passed (applies bs) header_tests (later (axioms_in bs)) header_none)
@@ -135,8 +135,8 @@ module _ (bs : List ℕ) where
         where
           by_line : (k : ℕ) → k < axioms_in bs → (a : theory.Axiom) → a ∈ said (axiom_of (line_at bs k)) → declares (says bs) a ≡ true
           by_line k h a m =
-              let passed = first-none (applies bs) (line_tests k) (sym (test_at k) ∙ read.1 k (omega (arith, header.axioms))) (BadArgument k) (Memᴰ.tail (Memᴰ.head refl)) in
-              let (b, e, _, d) = line-says (says bs) (line_at bs k) (not-false (fits_line (says bs) (line_at bs k)) passed) in
+              let passed = first_none (applies bs) (line_tests k) (sym (test_at k) ∙ read.1 k (omega (arith, header.axioms))) (BadArgument k) (Memᴰ.tail (Memᴰ.head refl)) in
+              let (b, e, _, d) = line_says (says bs) (line_at bs k) (not-false (fits_line (says bs) (line_at bs k)) passed) in
               let same = Memᴰ.eq_of_singleton (subst (λ o. a ∈ said o) e m) in
               ap (declares (says bs)) same ∙ d
 

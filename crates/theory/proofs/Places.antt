@@ -82,11 +82,11 @@ each_in f [] b m = elim m [ ]
 each_in f (c ∷ l) b m = ⊎_elim (λ h. (c, Memᴰ.head refl, h)) (λ m. let (a, i, h) = each_in f l b m in (a, Memᴰ.tail i, h)) (Memᴰ.append_cases (f c) m)
 
 -- no axiom stands twice: none is at two places
-pub apart-at : (l : List Axiom) (j k : ℕ) (a : Axiom) → Apart l → j < k → slice_get l j ≡ Some a → slice_get l k ≡ Some a → ⊥
-apart-at [] j k a p h u v = no_some u
-apart-at (b ∷ l) j zero a p h u v = omega arith
-apart-at (b ∷ l) zero (suc k) a (out, p) h u v = let e : b ≡ a = cc in out (nth_in l k b (v ∙ ap Some (sym e)))
-apart-at (b ∷ l) (suc j) (suc k) a (out, p) h u v = apart-at l j k a p (omega arith) u v
+pub apart_at : (l : List Axiom) (j k : ℕ) (a : Axiom) → Apart l → j < k → slice_get l j ≡ Some a → slice_get l k ≡ Some a → ⊥
+apart_at [] j k a p h u v = no_some u
+apart_at (b ∷ l) j zero a p h u v = omega arith
+apart_at (b ∷ l) zero (suc k) a (out, p) h u v = let e : b ≡ a = cc in out (nth_in l k b (v ∙ ap Some (sym e)))
+apart_at (b ∷ l) (suc j) (suc k) a (out, p) h u v = apart_at l j k a p (omega arith) u v
 
 pub apart_from : (l : List Axiom) → ((j k : ℕ) (a : Axiom) → j < k → slice_get l j ≡ Some a → slice_get l k ≡ Some a → ⊥) → Apart l
 apart_from [] never = tt

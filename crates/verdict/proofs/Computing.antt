@@ -15,8 +15,8 @@ use Rattle.chase.specs.Trials.{facts_of}
 use Rattle.chase.proofs.Judging.{judging_stands}
 use Rattle.verdict.specs.Verdicts.{EdgesOf}
 
-eqb-turned : (a b : ℕ) → eqb a b ≡ eqb b a
-eqb-turned a b = go (cases_eq a b)
+eqb_turned : (a b : ℕ) → eqb a b ≡ eqb b a
+eqb_turned a b = go (cases_eq a b)
   where
     go : (a ≡ b) ⊎ ((a ≡ b) → ⊥) → eqb a b ≡ eqb b a
     go (inl e) = eq-eqb a b e ∙ sym (eq-eqb b a (sym e))
@@ -26,7 +26,7 @@ eqb-turned a b = go (cases_eq a b)
 among_edges : (i j : ℕ) (fs : List (Fact ℕ)) → any_of (same_fact (role edge i j)) fs ≡ any_of (same_fact (role edge i j)) (filter is_edge fs)
 among_edges i j [] = refl
 among_edges i j (concept c n ∷ fs) = among_edges i j fs
-among_edges i j (role r n m ∷ fs) = go (eqb r edge) (eqb-turned edge r) (among_edges i j fs)
+among_edges i j (role r n m ∷ fs) = go (eqb r edge) (eqb_turned edge r) (among_edges i j fs)
   where
     kept : List (Fact ℕ)
     kept = filter is_edge fs

@@ -3,7 +3,7 @@ use Rattle.table.specs.Answers.{meaning}
 use Rattle.chase.specs.Trials.{term_at}
 use Rattle.start.specs.Starting.{terms_to}
 use Rattle.chase.specs.Judging.{unsafe_term}
-use Rattle.start.proofs.Marking.{unmarked, Marks, marks-one, marks-none}
+use Rattle.start.proofs.Marking.{unmarked, Marks, marks_one, marks_none}
 use Rattle.start.proofs.Witnesses.{room}
 use Rattle.start.proofs.marks.unsafe_marks.Goals as goal
 use Rattle.start.proofs.marks.unsafe_marks.Goals.{then-asks_witness, else-asks_witness}
@@ -30,9 +30,9 @@ loop-k-preserved c =
     elim c.if-asks_witness.branch [
       | then-asks_witness w ↦
           let asks = sym c.asks_witness.ensures ∙ w.if-asks_witness.true in
-          at _ _ w.marks-is w.next-is (marks-one t c.loop-k.marks c.loop-k.next k c.loop-k.invariant w.is_unsafe.result asks (room t c.args.table.now.sound k (omega (arith, c.axiom_count-k-end.ensures.all)) asks) w.is_unsafe.ensures.computes)
+          at _ _ w.marks-is w.next-is (marks_one t c.loop-k.marks c.loop-k.next k c.loop-k.invariant w.is_unsafe.result asks (room t c.args.table.now.sound k (omega (arith, c.axiom_count-k-end.ensures.all)) asks) w.is_unsafe.ensures.computes)
       | else-asks_witness w ↦
-          at _ _ w.marks-is w.next-is (marks-none t c.loop-k.marks c.loop-k.next k c.loop-k.invariant (sym c.asks_witness.ensures ∙ w.if-asks_witness.false))
+          at _ _ w.marks-is w.next-is (marks_none t c.loop-k.marks c.loop-k.next k c.loop-k.invariant (sym c.asks_witness.ensures ∙ w.if-asks_witness.false))
     ]
 
 pub returns : goal.returns
