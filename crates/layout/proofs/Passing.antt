@@ -6,7 +6,7 @@ use Rattle.std.proofs.lemmas.List.{length-map}
 use Rattle.std.proofs.lemmas.Bool.{both_ways, and_parts, and_from, not-false, cases_Bool, cond-true, cond-false, eq-eqb, leb-true}
 use Rattle.std.proofs.lemmas.Bool.Decides.{nat_tests}
 use Rattle.theory.specs.Lists.{◌∈◌, any_of, count_of, up_from, each}
-use Rattle.theory.specs.Table.{Axiom, Table, Line, at_most_one, line_of, has_form, axiom_of, same_line_decides}
+use Rattle.theory.specs.Table.{Axiom, Table, Line, at_most_one, line_of, has_form, axiom_of, same_line}
 use Rattle.theory.specs.Roles.{Simple}
 use Rattle.theory.specs.WellFormed.{declares, Declared, Apart, WellFormed, counts_simple}
 use Rattle.theory.proofs.Members.{any_of_decides}
@@ -171,8 +171,8 @@ module _ (bs : List ℕ) (none : first (applies bs) (order (axioms_in bs)) ≡ N
       (λ j k a h u v.
       let (_, x) = said_line j a u in
       let (low, y) = said_line k a v in
-      both_ways (any_of (same_line_decides (line_at bs k)) (lines_to bs k)) (due (Repeated k) low)
-      ((any_of_decides (same_line_decides (line_at bs k)) (lines_to bs k)).1 (line_at bs j, Memᴰ.map (line_at bs) (in_up 0 k j (omega arith) (omega arith)), (same_line_decides (line_at bs k) (line_at bs j)).1 (sym y ∙ x))))
+      both_ways (any_of (same_line (line_at bs k)) (lines_to bs k)) (due (Repeated k) low)
+      ((any_of_decides (same_line (line_at bs k)) (lines_to bs k)).1 (line_at bs j, Memᴰ.map (line_at bs) (in_up 0 k j (omega arith) (omega arith)), (same_line_decides (line_at bs k) (line_at bs j)).1 (sym y ∙ x))))
 
   said_few : count_of (has_form 8) (says bs).axioms ≤ 32
   said_few = omega (arith, count_limit (has_form 8) 32 (says bs).axioms 0 (omega arith) stops)

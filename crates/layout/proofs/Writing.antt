@@ -5,7 +5,7 @@ use Rattle.std.specs.List.{slice_get}
 use Rattle.std.proofs.lemmas.List.{length-map, length-append, get_or_append_left, get_or-append-add}
 use Rattle.std.proofs.lemmas.Bool.{and_parts, and_from, cases_Bool, cases_lt, not_from_true, eq-eqb, eqb-true, le-leb, le-ltb}
 use Rattle.theory.specs.Lists.{any_of, count_of, up_from, each}
-use Rattle.theory.specs.Table.{Axiom, Table, Line, line_of, has_form, axiom_of, same_line_decides}
+use Rattle.theory.specs.Table.{Axiom, Table, Line, line_of, has_form, axiom_of, same_line}
 use Rattle.theory.specs.WellFormed.{WellFormed, counts_simple}
 use Rattle.theory.proofs.Members.{any_of_decides}
 use Rattle.theory.proofs.Places.{no_some, nth_in, nth_below, nth_some, nth_map, get_or-nth, same_places, up_in, apart_at, count_before}
@@ -152,9 +152,9 @@ module _ (t : Table) where
     size_written : (k : ℕ) (x : ℕ) → get_or (words_of t) k 0 ≡ x → size_fits k x ≡ true → applies bytes (SizeOutOfLimits k) ≡ false
     size_written k x e h = ap (λ x. not (size_fits k x)) (word_written (words_of t) k ∙ e) ∙ not_from_true _ h
 
-    fresh_written : (k : ℕ) → k < axioms_in bytes → any_of (same_line_decides (line_at bytes k)) (lines_to bytes k) ≡ true → ⊥
+    fresh_written : (k : ℕ) → k < axioms_in bytes → any_of (same_line (line_at bytes k)) (lines_to bytes k) ≡ true → ⊥
     fresh_written k h e =
-        let (l, m, q) = (any_of_decides (same_line_decides (line_at bytes k)) (lines_to bytes k)).0 e in
+        let (l, m, q) = (any_of_decides (same_line (line_at bytes k)) (lines_to bytes k)).0 e in
         let (j, i, is) = Memᴰ.of_map (line_at bytes) (up_from 0 k) m in
         let (_, low) = up_in 0 k j i in
         let (a, u) = axiom_at j (omega arith) in

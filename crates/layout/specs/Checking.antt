@@ -2,7 +2,7 @@
 use Rattle.std.specs.Prelude.{ℕ, ◌+◌, ◌*◌, Bool, false, cond, not, ◌&&◌, List, [], ◌∷◌, ◌++◌, map, length, take, Some, None, Option, ◌==◌, nat_le, nat_lt, slice_index}
 use Rattle.std.specs.List.{slice_get}
 use Rattle.theory.specs.Lists.{any_of, count_of, up_from, each}
-use Rattle.theory.specs.Table.{Axiom, Table, same_line_decides, has_form}
+use Rattle.theory.specs.Table.{Axiom, Table, same_line, has_form}
 use Rattle.theory.specs.WellFormed.{counts_simple}
 use Rattle.layout.specs.declared.refusal.Refusal.{Refusal}
 use Rattle.layout.specs.declared.refusal.Refusal.TheVariants.{TooShort, SizeOutOfLimits, WrongLength, UnknownForm, BadArgument, Repeated, TooManyWitnesses, NotSimple}
@@ -31,7 +31,7 @@ applies bs (SizeOutOfLimits w) = not (size_fits w (word_at bs w))
 applies bs WrongLength = not (length bs == 8 + 10 * axioms_in bs)
 applies bs (UnknownForm k) = not (has_kinds (kinds_of (line_at bs k).form))
 applies bs (BadArgument k) = not (fits_line (says bs) (line_at bs k))
-applies bs (Repeated k) = any_of (same_line_decides (line_at bs k)) (lines_to bs k)
+applies bs (Repeated k) = any_of (same_line (line_at bs k)) (lines_to bs k)
 applies bs (TooManyWitnesses k) = passes (has_form 8) (slice_get (says bs).axioms k) && count_of (has_form 8) (take k (says bs).axioms) == 32
 applies bs (NotSimple k) = passes (λ a. not (counts_simple (says bs) a)) (slice_get (says bs).axioms k)
 

@@ -1,7 +1,7 @@
 -- What is taken for the sizes of a table and for one of its lines.
 use Rattle.std.specs.Prelude.{◌≡◌, ℕ, cond, not, List, Some, None, Ok, Err, Option, Result}
 use Rattle.theory.specs.Lists.{any_of}
-use Rattle.theory.specs.Table.{Table, Line, same_line_decides, axiom_of}
+use Rattle.theory.specs.Table.{Table, Line, same_line, axiom_of}
 use Rattle.layout.specs.declared.axiom.Axiom.{Axiom}
 use Rattle.layout.specs.declared.refusal.Refusal.{Refusal}
 use Rattle.layout.specs.declared.refusal.Refusal.TheVariants.{SizeOutOfLimits, UnknownForm, BadArgument, Repeated}
@@ -23,7 +23,7 @@ SizesTaken c r i n (Err f) = size_refusal c r i n ≡ Some f
 -- the first test that line k fails, after these lines
 abbrev pub line_refusal : Table → List Line → ℕ → Line → Option Refusal
 line_refusal t earlier k l =
-    cond (not (has_kinds (kinds_of l.form))) (Some (UnknownForm k)) (cond (not (fits_line t l)) (Some (BadArgument k)) (cond (any_of (same_line_decides l) earlier) (Some (Repeated k)) None))
+    cond (not (has_kinds (kinds_of l.form))) (Some (UnknownForm k)) (cond (not (fits_line t l)) (Some (BadArgument k)) (cond (any_of (same_line l) earlier) (Some (Repeated k)) None))
 
 abbrev pub LineTaken : Table → List Line → ℕ → Line → Result Axiom Refusal → Type 0
 LineTaken t earlier k l (Ok a) = (line_refusal t earlier k l ≡ None) × (axiom_of l ≡ Some (axiom_in a))

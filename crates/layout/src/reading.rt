@@ -1,6 +1,6 @@
 ghost use Rattle.std.specs.Prelude.{◌≡◌, ◌≤◌, true, [], map, Some};
 ghost use Rattle.theory.specs.Lists.{any_of};
-ghost use Rattle.theory.specs.Table.{axiom_of, same_line_decides};
+ghost use Rattle.theory.specs.Table.{axiom_of, same_line};
 ghost use Rattle.layout.specs.Meaning.{axiom_in, line_in, table_of};
 ghost use Rattle.layout.specs.Forms.{kinds_of, limit, fits, fits_line};
 ghost use Rattle.layout.specs.Limits.{LineTaken};
@@ -166,14 +166,14 @@ fn axiom_of(sizes: Sizes, line: Line) -> Axiom
 
 /// Whether two lines are one.
 fn same(a: Line, b: Line) -> bool
-    ensures { result ≡ same_line_decides (line_in a) (line_in b) }
+    ensures { result ≡ same_line (line_in a) (line_in b) }
 {
     a.form == b.form && a.p == b.p && a.q == b.q && a.r == b.r && a.s == b.s
 }
 
 /// Whether the line is among these.
 fn stands(line: Line, earlier: &[Line]) -> bool
-    ensures { result ≡ any_of (same_line_decides (line_in line)) (map line_in earlier.now) }
+    ensures { result ≡ any_of (same_line (line_in line)) (map line_in earlier.now) }
 {
     for other in earlier {
         if same(line, *other) {

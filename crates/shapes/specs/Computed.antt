@@ -3,7 +3,7 @@ use Rattle.std.specs.Prelude.{ℕ, zero, suc, max, Bool, cond, ◌&&◌}
 use Rattle.shapes.specs.declared.shape.Shape.{Shape}
 use Rattle.shapes.specs.declared.shape.Shape.TheVariants.{Forest, Acyclic, Cyclic}
 use Rattle.graph.specs.Digraph.{Digraph}
-use Rattle.graph.specs.Reached.{some_below_decides, reached}
+use Rattle.graph.specs.Reached.{some_below, reached}
 use Rattle.shapes.specs.Views.{undirected, without}
 use Rattle.shapes.specs.Cycles.{DirectedCycle}
 use Rattle.shapes.specs.Heights.{IsHeight}
@@ -16,16 +16,16 @@ most_below f (suc n) = max (f n) (most_below f n)
 
 -- a path of one or more edges leads back
 abbrev pub on_cycle : Digraph → ℕ → Bool
-on_cycle g a = some_below_decides (λ b. g.edge a b && reached g b a) g.nodes
+on_cycle g a = some_below (λ b. g.edge a b && reached g b a) g.nodes
 
 abbrev pub has_cycle : Digraph → Bool
-has_cycle g = some_below_decides (on_cycle g) g.nodes
+has_cycle g = some_below (on_cycle g) g.nodes
 
 abbrev pub on_ring : Digraph → ℕ → Bool
-on_ring g a = some_below_decides (λ b. (undirected g).edge a b && reached (without (undirected g) a b) a b) g.nodes
+on_ring g a = some_below (λ b. (undirected g).edge a b && reached (without (undirected g) a b) a b) g.nodes
 
 abbrev pub has_ring : Digraph → Bool
-has_ring g = some_below_decides (on_ring g) g.nodes
+has_ring g = some_below (on_ring g) g.nodes
 
 abbrev pub shape_of : Digraph → Shape
 shape_of g = cond (has_cycle g) Cyclic (cond (has_ring g) Acyclic Forest)

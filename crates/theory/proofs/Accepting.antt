@@ -4,7 +4,7 @@ use mathlib.Core.List.Memᴰ
 use Rattle.std.proofs.lemmas.Bool.{cases_Bool, and_parts, and_from, cond-false}
 use Rattle.std.proofs.lemmas.Bool.Decides.{nat_tests, Decides-eqb, Decides-and, Decides-not, Decides-like}
 use Rattle.theory.specs.Lists.{◌∈◌, any_of, all_of, count_of}
-use Rattle.theory.specs.Table.{Axiom, Table, Line, at_most_one, line_of, has_form, same_line_decides}
+use Rattle.theory.specs.Table.{Axiom, Table, Line, at_most_one, line_of, has_form, same_line}
 use Rattle.theory.specs.Roles.{Simple}
 use Rattle.theory.specs.WellFormed.{declares, Declared, Apart, WellFormed, sizes_fit, apart, counts_simple, well_formed}
 use Rattle.theory.specs.Laws.{TestsAreTrue}
@@ -15,23 +15,23 @@ use Rattle.theory.proofs.Deciding.{included_decides, simple_decides, unsafe_deci
 pub same_words : (k l : Line) → k.form ≡ l.form → k.p ≡ l.p → k.q ≡ l.q → k.r ≡ l.r → k.s ≡ l.s → k ≡ l
 same_words k l a b c d e i = record { form = a i; p = b i; q = c i; r = d i; s = e i }
 
-pub same_line_decides : (k l : Line) → Decides (same_line_decides k l) (k ≡ l)
+pub same_line_decides : (k l : Line) → Decides (same_line k l) (k ≡ l)
 same_line_decides k l =
-    Decides-like (same_line_decides k l) (λ (a, b, c, d, e). same_words k l a b c d e) (λ h. (ap (λ (x : Line). x.form) h, ap (λ (x : Line). x.p) h, ap (λ (x : Line). x.q) h, ap (λ (x : Line). x.r) h, ap (λ (x : Line). x.s) h))
-    (Decides-like (same_line_decides k l) (λ (a, (b, (c, (d, e)))). (a, b, c, d, e)) (λ (a, b, c, d, e). (a, (b, (c, (d, e)))))
+    Decides-like (same_line k l) (λ (a, b, c, d, e). same_words k l a b c d e) (λ h. (ap (λ (x : Line). x.form) h, ap (λ (x : Line). x.p) h, ap (λ (x : Line). x.q) h, ap (λ (x : Line). x.r) h, ap (λ (x : Line). x.s) h))
+    (Decides-like (same_line k l) (λ (a, (b, (c, (d, e)))). (a, b, c, d, e)) (λ (a, b, c, d, e). (a, (b, (c, (d, e)))))
     (Decides-and _ _ (Decides-eqb k.form l.form) (Decides-and _ _ (Decides-eqb k.p l.p) (Decides-and _ _ (Decides-eqb k.q l.q) (Decides-and _ _ (Decides-eqb k.r l.r) (Decides-eqb k.s l.s))))))
 
-same_lines : (a b : Axiom) → Decides (same_line_decides (line_of a) (line_of b)) (a ≡ b)
+same_lines : (a b : Axiom) → Decides (same_line (line_of a) (line_of b)) (a ≡ b)
 same_lines a b = Decides-like _ (same_axiom a b) (ap line_of) (same_line_decides (line_of a) (line_of b))
 
-pub stands : (a : Axiom) (l : List Axiom) → Decides (any_of (λ b. same_line_decides (line_of a) (line_of b)) l) (a ∈ l)
+pub stands : (a : Axiom) (l : List Axiom) → Decides (any_of (λ b. same_line (line_of a) (line_of b)) l) (a ∈ l)
 stands a l =
     Decides-like _ (λ (b, m, q). Memᴰ.cast ((same_lines a b).0 q) m) (λ m. (a, m, (same_lines a a).1 refl))
-    (any_of_decides (λ b. same_line_decides (line_of a) (line_of b)) l)
+    (any_of_decides (λ b. same_line (line_of a) (line_of b)) l)
 
 apart_decides : (l : List Axiom) → Decides (apart l) (Apart l)
 apart_decides [] = (λ _. tt, λ _. refl)
-apart_decides (a ∷ l) = Decides-and (not (any_of (λ b. same_line_decides (line_of a) (line_of b)) l)) (apart l) (Decides-not _ (stands a l)) (apart_decides l)
+apart_decides (a ∷ l) = Decides-and (not (any_of (λ b. same_line (line_of a) (line_of b)) l)) (apart l) (Decides-not _ (stands a l)) (apart_decides l)
 
 module _ (t : Table) (declared : Declared t) where
   pub counts_simple_reads : (a : Axiom) → a ∈ t.axioms → counts_simple t a ≡ true → (p q r : ℕ) → a ≡ at_most_one p q r → Simple t q

@@ -52,8 +52,8 @@ line_of (open_role p) = line 12 p 0 0 0
 abbrev pub has_form : ℕ → Axiom → Bool
 has_form f a = (line_of a).form == f
 
-abbrev pub same_line_decides : Line → Line → Bool
-same_line_decides k l = k.form == l.form && (k.p == l.p && (k.q == l.q && (k.r == l.r && k.s == l.s)))
+abbrev pub same_line : Line → Line → Bool
+same_line k l = k.form == l.form && (k.p == l.p && (k.q == l.q && (k.r == l.r && k.s == l.s)))
 
 -- what the words say by form 1, by form 2 and so on
 abbrev pub readings : Line → List Axiom

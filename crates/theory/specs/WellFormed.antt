@@ -1,7 +1,7 @@
 -- The tables that are accepted: as a relation, and as a test that computes.
 use Rattle.std.specs.Prelude.{◌≡◌, ℕ, ◌≤◌, Bool, true, cond, not, ◌&&◌, List, [], ◌∷◌, length, nat_le, nat_lt}
 use Rattle.theory.specs.Lists.{◌∈◌, any_of, all_of, count_of}
-use Rattle.theory.specs.Table.{Axiom, Table, sub_role, sub_inverse, transitive, conjunction, nominal, filler, at_most_one, exists, range, has_value, open_concept, open_role, line_of, has_form, same_line_decides}
+use Rattle.theory.specs.Table.{Axiom, Table, sub_role, sub_inverse, transitive, conjunction, nominal, filler, at_most_one, exists, range, has_value, open_concept, open_role, line_of, has_form, same_line}
 use Rattle.theory.specs.Roles.{Simple, is_simple}
 
 -- every argument of the axiom is declared
@@ -43,7 +43,7 @@ sizes_fit c r i n = (nat_le 2 c && nat_le c 32) && (nat_le r 7 && ((nat_le 1 i &
 
 abbrev pub apart : List Axiom → Bool
 apart [] = true
-apart (a ∷ l) = let rest = apart l in not (any_of (λ b. same_line_decides (line_of a) (line_of b)) l) && rest
+apart (a ∷ l) = let rest = apart l in not (any_of (λ b. same_line (line_of a) (line_of b)) l) && rest
 
 -- the role of a form 7 axiom is simple
 abbrev pub counts_simple : Table → Axiom → Bool
