@@ -2,16 +2,17 @@ use crate::calls::{Answer, Call, Step, drive, first_wrong};
 use ledger::{Entry, Fact};
 use ledgers::{BitLedger, ListLedger};
 use names::{Concept, Role, Term};
-use std::process::Abort;
+use std::test::Fail;
 
 /// Puts the steps to both ledgers, one after the other over the same rows.
-fn follow(rt: &impl Abort, rows: &mut [Entry], steps: &[Step]) {
-    assert_eq!(rt;
-        first_wrong(&mut ListLedger::new(rows), steps),
-        None,
-        "list"
-    );
-    assert_eq!(rt; first_wrong(&mut BitLedger::new(rows), steps), None, "bits");
+fn follow(rows: &mut [Entry], steps: &[Step]) -> Result<(), Fail> {
+    if first_wrong(&mut ListLedger::new(rows), steps).is_some() {
+        return Err(Fail::new("list"));
+    }
+    if first_wrong(&mut BitLedger::new(rows), steps).is_some() {
+        return Err(Fail::new("bits"));
+    }
+    Ok(())
 }
 
 fn step(call: Call, due: Answer) -> Step {
@@ -29,7 +30,7 @@ fn of(number: u8) -> Fact {
 }
 
 #[test]
-fn capacity_zero(rt: HostRuntime) {
+fn capacity_zero() -> Result<(), Fail> {
     let steps = [
         step(Call::Capacity, Answer::Number(0)),
         step(Call::Add(of(1)), Answer::Refused(0)),
@@ -39,11 +40,11 @@ fn capacity_zero(rt: HostRuntime) {
         step(Call::Count, Answer::Number(0)),
     ];
     let mut rows: [Entry; 0] = [];
-    follow(&rt, &mut rows, &steps);
+    follow(&mut rows, &steps)
 }
 
 #[test]
-fn capacity_one(rt: HostRuntime) {
+fn capacity_one() -> Result<(), Fail> {
     let steps = [
         step(Call::AddAll(of(1), of(1), of(1)), Answer::Joined(1)),
         step(Call::Add(of(1)), Answer::Known),
@@ -55,11 +56,11 @@ fn capacity_one(rt: HostRuntime) {
         step(Call::EntryAt(1), Answer::Absent),
     ];
     let mut rows = [Entry::blank(); 1];
-    follow(&rt, &mut rows, &steps);
+    follow(&mut rows, &steps)
 }
 
 #[test]
-fn full_then_emptied(rt: HostRuntime) {
+fn full_then_emptied() -> Result<(), Fail> {
     let steps = [
         step(Call::AddAll(of(1), of(2), of(1)), Answer::Joined(2)),
         step(Call::Add(of(3)), Answer::Appended),
@@ -74,11 +75,11 @@ fn full_then_emptied(rt: HostRuntime) {
         step(Call::EntryAt(usize::MAX), Answer::Absent),
     ];
     let mut rows = [Entry::blank(); 3];
-    follow(&rt, &mut rows, &steps);
+    follow(&mut rows, &steps)
 }
 
 #[test]
-fn all_or_none(rt: HostRuntime) {
+fn all_or_none() -> Result<(), Fail> {
     let steps = [
         step(Call::AddAll(of(1), of(2), of(2)), Answer::Joined(2)),
         step(Call::AddAll(of(3), of(4), of(5)), Answer::Refused(4)),
@@ -90,11 +91,11 @@ fn all_or_none(rt: HostRuntime) {
         step(Call::AddAll(of(1), of(2), of(4)), Answer::Joined(0)),
     ];
     let mut rows = [Entry::blank(); 4];
-    follow(&rt, &mut rows, &steps);
+    follow(&mut rows, &steps)
 }
 
 #[test]
-fn last_fact(rt: HostRuntime) {
+fn last_fact() -> Result<(), Fail> {
     let end = Term { number: 47 };
     let last = Fact::Link(Role { number: 9 }, end, end);
     let other = Fact::Is(Concept { number: 32 }, end);
@@ -109,7 +110,7 @@ fn last_fact(rt: HostRuntime) {
         step(Call::EntryAt(0), Answer::Found(last)),
     ];
     let mut rows = [Entry::blank(); 2];
-    follow(&rt, &mut rows, &steps);
+    follow(&mut rows, &steps)
 }
 
 #[test]

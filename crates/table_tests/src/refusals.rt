@@ -1,21 +1,17 @@
 use crate::bytes::{LODGE, Row, answer, encoded};
 use std::alloc::{AllocError, Global};
-use std::process::Abort;
 use std::test::Fail;
 
 const ACCEPTED: (u8, u8) = (0, 0);
 
 /// Checks number and place of the refusal that a table meets.
-fn meets(
-    rt: &impl Abort,
-    heap: Global,
-    sizes: [u16; 4],
-    rows: &[Row],
-    due: (u8, u8),
-) -> Result<(), Fail> {
+fn meets(heap: Global, sizes: [u16; 4], rows: &[Row], due: (u8, u8)) -> Result<(), Fail> {
     let bytes = encoded(heap, sizes, rows)?;
-    assert_eq!(rt; answer(bytes.as_slice()), due);
-    Ok(())
+    if answer(bytes.as_slice()) == due {
+        Ok(())
+    } else {
+        Err(Fail::new("another answer"))
+    }
 }
 
 /// As many different axioms as asked for, none of which asks for a witness.
@@ -53,20 +49,20 @@ fn a_short_table_is_refused_before_its_sizes_are_looked_at(rt: HostRuntime) {
 #[test]
 fn sizes_are_looked_at_in_order(rt: HostRuntime) -> Result<(), Fail> {
     let heap = rt.alloc();
-    meets(&rt, heap, [1, 8, 0, 65], &[], (2, 0))?;
-    meets(&rt, heap, [33, 8, 0, 65], &[], (2, 0))?;
-    meets(&rt, heap, [32, 8, 0, 65], &[], (2, 1))?;
-    meets(&rt, heap, [32, 7, 0, 65], &[], (2, 2))?;
-    meets(&rt, heap, [32, 7, 17, 65], &[], (2, 2))?;
-    meets(&rt, heap, [32, 7, 16, 65], &[], (2, 3))?;
-    meets(&rt, heap, [2, 0, 1, 0], &[], ACCEPTED)
+    meets(heap, [1, 8, 0, 65], &[], (2, 0))?;
+    meets(heap, [33, 8, 0, 65], &[], (2, 0))?;
+    meets(heap, [32, 8, 0, 65], &[], (2, 1))?;
+    meets(heap, [32, 7, 0, 65], &[], (2, 2))?;
+    meets(heap, [32, 7, 17, 65], &[], (2, 2))?;
+    meets(heap, [32, 7, 16, 65], &[], (2, 3))?;
+    meets(heap, [2, 0, 1, 0], &[], ACCEPTED)
 }
 
 #[test]
 fn the_length_follows_from_the_sizes(rt: HostRuntime) -> Result<(), Fail> {
     let heap = rt.alloc();
-    meets(&rt, heap, [7, 2, 2, 8], &LODGE, (3, 0))?;
-    meets(&rt, heap, [7, 2, 2, 6], &LODGE, (3, 0))?;
+    meets(heap, [7, 2, 2, 8], &LODGE, (3, 0))?;
+    meets(heap, [7, 2, 2, 6], &LODGE, (3, 0))?;
     let mut bytes = encoded(heap, [7, 2, 2, 7], &LODGE)?;
     bytes.push(0)?;
     assert_eq!(rt; answer(bytes.as_slice()), (3, 0));
@@ -77,9 +73,9 @@ fn the_length_follows_from_the_sizes(rt: HostRuntime) -> Result<(), Fail> {
 fn sixty_four_axioms_are_the_most(rt: HostRuntime) -> Result<(), Fail> {
     let heap = rt.alloc();
     let rows = many(heap, 64)?;
-    meets(&rt, heap, [32, 0, 1, 64], rows.as_slice(), ACCEPTED)?;
+    meets(heap, [32, 0, 1, 64], rows.as_slice(), ACCEPTED)?;
     let rows = many(heap, 65)?;
-    meets(&rt, heap, [32, 0, 1, 65], rows.as_slice(), (2, 3))
+    meets(heap, [32, 0, 1, 65], rows.as_slice(), (2, 3))
 }
 
 #[test]
@@ -88,26 +84,26 @@ fn an_axiom_passes_its_tests_before_the_next_is_looked_at(rt: HostRuntime) -> Re
     let open = [11, 2, 0, 0, 0];
     let unknown = [13, 9, 9, 9, 9];
     // an unknown form before a bad argument, in the same line and in a later one
-    meets(&rt, heap, [3, 1, 1, 2], &[unknown, [4, 9, 0, 0, 0]], (4, 0))?;
-    meets(&rt, heap, [3, 1, 1, 1], &[[0, 0, 0, 0, 0]], (4, 0))?;
+    meets(heap, [3, 1, 1, 2], &[unknown, [4, 9, 0, 0, 0]], (4, 0))?;
+    meets(heap, [3, 1, 1, 1], &[[0, 0, 0, 0, 0]], (4, 0))?;
     // a bad argument before an unknown form in a later line
-    meets(&rt, heap, [3, 1, 1, 2], &[[4, 2, 2, 3, 2], unknown], (5, 0))?;
+    meets(heap, [3, 1, 1, 2], &[[4, 2, 2, 3, 2], unknown], (5, 0))?;
     // an unused word, although the axiom stands twice but for it
-    meets(&rt, heap, [3, 1, 1, 2], &[open, [11, 2, 0, 0, 1]], (5, 1))?;
+    meets(heap, [3, 1, 1, 2], &[open, [11, 2, 0, 0, 1]], (5, 1))?;
     // a repetition before an unknown form in a later line
-    meets(&rt, heap, [3, 1, 1, 3], &[open, open, unknown], (6, 1))
+    meets(heap, [3, 1, 1, 3], &[open, open, unknown], (6, 1))
 }
 
 #[test]
 fn thirty_two_witness_axioms_are_the_most(rt: HostRuntime) -> Result<(), Fail> {
     let heap = rt.alloc();
     let rows = witnesses(heap, 32)?;
-    meets(&rt, heap, [32, 7, 1, 32], rows.as_slice(), ACCEPTED)?;
+    meets(heap, [32, 7, 1, 32], rows.as_slice(), ACCEPTED)?;
     // a 33rd, although a role that is not simple is counted
     let mut rows = witnesses(heap, 33)?;
     rows.push([3, 0, 0, 0, 0])?;
     rows.push([7, 2, 0, 2, 0])?;
-    meets(&rt, heap, [32, 7, 1, 35], rows.as_slice(), (7, 32))
+    meets(heap, [32, 7, 1, 35], rows.as_slice(), (7, 32))
 }
 
 #[test]
@@ -116,23 +112,10 @@ fn a_counted_role_is_simple(rt: HostRuntime) -> Result<(), Fail> {
     let transitive = [3, 0, 0, 0, 0];
     let inverse = [2, 0, 1, 0, 0];
     let larger = [1, 1, 2, 0, 0];
-    meets(
-        &rt,
-        heap,
-        [3, 2, 1, 2],
-        &[[7, 2, 0, 2, 0], transitive],
-        (8, 0),
-    )?;
-    meets(
-        &rt,
-        heap,
-        [3, 2, 1, 2],
-        &[[7, 2, 1, 2, 0], transitive],
-        ACCEPTED,
-    )?;
+    meets(heap, [3, 2, 1, 2], &[[7, 2, 0, 2, 0], transitive], (8, 0))?;
+    meets(heap, [3, 2, 1, 2], &[[7, 2, 1, 2, 0], transitive], ACCEPTED)?;
     // 0 ⊑ 1⁻ and 1 ⊑ 2: then 0⁻ ⊑ 1 ⊑ 2
     meets(
-        &rt,
         heap,
         [3, 3, 1, 4],
         &[transitive, inverse, larger, [7, 2, 2, 2, 0]],
@@ -140,7 +123,6 @@ fn a_counted_role_is_simple(rt: HostRuntime) -> Result<(), Fail> {
     )?;
     // 1⁻ ⊑ 2⁻ follows from 1 ⊑ 2: then 0 ⊑ 1⁻ ⊑ 2⁻ ⊑ 3, as 2 ⊑ 3⁻
     meets(
-        &rt,
         heap,
         [3, 4, 1, 5],
         &[
@@ -154,7 +136,6 @@ fn a_counted_role_is_simple(rt: HostRuntime) -> Result<(), Fail> {
     )?;
     // what a transitive role includes may be simple
     meets(
-        &rt,
         heap,
         [3, 2, 1, 3],
         &[[3, 1, 0, 0, 0], [1, 0, 1, 0, 0], [7, 2, 0, 2, 0]],

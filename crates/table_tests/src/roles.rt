@@ -1,14 +1,12 @@
 use crate::bytes::{LODGE, Row, encoded};
 use names::Role;
 use std::alloc::Global;
-use std::process::Abort;
 use std::test::Fail;
 use table::check::check as checked;
 use table::expression::Expression;
 
 /// Checks how many roles are simple, how many axioms ask for a witness, and how many of those are unsafe.
 fn counts(
-    rt: &impl Abort,
     heap: Global,
     sizes: [u16; 4],
     rows: &[Row],
@@ -17,23 +15,24 @@ fn counts(
     let bytes = encoded(heap, sizes, rows)?;
     match checked(bytes.as_slice()) {
         Ok(table) => {
-            assert_eq!(rt;
-                (
-                    table.simple_roles(),
-                    table.witness_axioms(),
-                    table.unsafe_axioms(),
-                ),
-                due
+            let counted = (
+                table.simple_roles(),
+                table.witness_axioms(),
+                table.unsafe_axioms(),
             );
-            Ok(())
-        },
+            if counted == due {
+                Ok(())
+            } else {
+                Err(Fail::new("other counts"))
+            }
+        }
         Err(_) => Err(Fail::new("refused")),
     }
 }
 
 #[test]
 fn the_lodge_table_has_one_unsafe_axiom(rt: HostRuntime) -> Result<(), Fail> {
-    counts(&rt, rt.alloc(), [7, 2, 2, 7], &LODGE, (2, 1, 1))?;
+    counts(rt.alloc(), [7, 2, 2, 7], &LODGE, (2, 1, 1))?;
     let bytes = encoded(rt.alloc(), [7, 2, 2, 7], &LODGE)?;
     match checked(bytes.as_slice()) {
         Ok(table) => {
@@ -49,7 +48,7 @@ fn the_lodge_table_has_one_unsafe_axiom(rt: HostRuntime) -> Result<(), Fail> {
 #[test]
 fn without_its_third_record_the_lodge_table_is_safe(rt: HostRuntime) -> Result<(), Fail> {
     let rows = [LODGE[0], LODGE[1], LODGE[3], LODGE[4], LODGE[5], LODGE[6]];
-    counts(&rt, rt.alloc(), [7, 2, 2, 6], &rows, (2, 1, 0))
+    counts(rt.alloc(), [7, 2, 2, 6], &rows, (2, 1, 0))
 }
 
 #[test]
@@ -60,54 +59,17 @@ fn witnesses_are_unsafe_by_what_includes_their_role(rt: HostRuntime) -> Result<(
     let counted = [7, 2, 1, 2, 0];
     let inverse = [2, 0, 1, 0, 0];
     // counted, as it is, by a larger role, by a larger role the other way round
-    counts(
-        &rt,
-        heap,
-        [3, 3, 1, 2],
-        &[witness, [7, 2, 0, 2, 0]],
-        (3, 1, 1),
-    )?;
-    counts(
-        &rt,
-        heap,
-        sizes,
-        &[witness, counted, [1, 0, 1, 0, 0]],
-        (3, 1, 1),
-    )?;
-    counts(&rt, heap, sizes, &[witness, counted, inverse], (3, 1, 1))?;
+    counts(heap, [3, 3, 1, 2], &[witness, [7, 2, 0, 2, 0]], (3, 1, 1))?;
+    counts(heap, sizes, &[witness, counted, [1, 0, 1, 0, 0]], (3, 1, 1))?;
+    counts(heap, sizes, &[witness, counted, inverse], (3, 1, 1))?;
     // a smaller role does not count
-    counts(
-        &rt,
-        heap,
-        sizes,
-        &[witness, counted, [1, 1, 0, 0, 0]],
-        (3, 1, 0),
-    )?;
+    counts(heap, sizes, &[witness, counted, [1, 1, 0, 0, 0]], (3, 1, 0))?;
     // a filler counts where the inverse is included, and not at ⊤
-    counts(
-        &rt,
-        heap,
-        [3, 3, 1, 2],
-        &[witness, [6, 0, 2, 2, 0]],
-        (3, 1, 0),
-    )?;
-    counts(
-        &rt,
-        heap,
-        sizes,
-        &[witness, [6, 1, 2, 2, 0], inverse],
-        (3, 1, 1),
-    )?;
-    counts(
-        &rt,
-        heap,
-        sizes,
-        &[witness, [6, 1, 0, 2, 0], inverse],
-        (3, 1, 0),
-    )?;
+    counts(heap, [3, 3, 1, 2], &[witness, [6, 0, 2, 2, 0]], (3, 1, 0))?;
+    counts(heap, sizes, &[witness, [6, 1, 2, 2, 0], inverse], (3, 1, 1))?;
+    counts(heap, sizes, &[witness, [6, 1, 0, 2, 0], inverse], (3, 1, 0))?;
     // 1 ⊑ 2 includes 1⁻ in 2⁻: so 0 ⊑ 1⁻ ⊑ 2⁻
     counts(
-        &rt,
         heap,
         [3, 3, 1, 4],
         &[witness, [6, 2, 2, 2, 0], inverse, [1, 1, 2, 0, 0]],
@@ -120,11 +82,10 @@ fn simple_roles_are_counted(rt: HostRuntime) -> Result<(), Fail> {
     let heap = rt.alloc();
     let transitive = [3, 1, 0, 0, 0];
     let turned = [2, 1, 2, 0, 0];
-    counts(&rt, heap, [2, 7, 1, 0], &[], (7, 0, 0))?;
-    counts(&rt, heap, [2, 3, 1, 1], &[transitive], (2, 0, 0))?;
-    counts(&rt, heap, [2, 3, 1, 2], &[transitive, turned], (1, 0, 0))?;
+    counts(heap, [2, 7, 1, 0], &[], (7, 0, 0))?;
+    counts(heap, [2, 3, 1, 1], &[transitive], (2, 0, 0))?;
+    counts(heap, [2, 3, 1, 2], &[transitive, turned], (1, 0, 0))?;
     counts(
-        &rt,
         heap,
         [2, 3, 1, 3],
         &[transitive, turned, [1, 2, 0, 0, 0]],
