@@ -36,7 +36,9 @@ OWN = {
     "same-var": "same_var_tells",
     "sizes-fit": "sizes_fit_test",
     "sizes-of": "has_sizes",
+    "ruleOf": "rule_of",
     "unsafe-axioms": "unsafe_ones",
+    "unsafeAxioms": "unsafe_axioms_of",
     "well-formed": "well_formed_decides",
 }
 # Lemmas on one function of another: here the dash stays.
@@ -135,7 +137,7 @@ def plan():
         with open(f, encoding="utf-8") as it:
             library |= imported(it.read())
     known = {snake(n) for n in functions if n not in types and "-" not in n} | {n for n in library if "-" not in n and n.isascii()}
-    turned = {}
+    turned = dict(OWN)
     for n in names:
         if "-" in n or "′" in n or (re.search(r"[a-z0-9][A-Z]", n) and n[:1].islower()) or (n[:1].isupper() and "_" in n):
             new = spelt(n, types, known).replace("′", "'")

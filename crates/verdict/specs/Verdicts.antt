@@ -4,7 +4,7 @@ use Rattle.graph.specs.Digraph.{Digraph}
 use Rattle.shapes.specs.Surveys.{Surveyed}
 use Rattle.theory.specs.Table.{Table}
 use Rattle.chase.specs.Fact.{role, edge}
-use Rattle.chase.specs.Judging.{judging_terms, unsafe_axioms, unsafe_term}
+use Rattle.chase.specs.Judging.{judging_terms, unsafe_axioms_of, unsafe_term}
 use Rattle.chase.specs.LawOfJudging.{Derivable}
 use Rattle.chase.specs.Trials.{term_at}
 use Rattle.verdict.specs.declared.verdict.Verdict.{Verdict}
@@ -27,7 +27,7 @@ pub record VerdictOf (t : Table) (v : Verdict) : Type 0 where
   pub graph : Digraph
   pub edges : EdgesOf t graph
   pub surveyed : Surveyed graph (unsafe_node t) v.shape v.height
-  pub counted : v.unsafe_axioms ≡ length (unsafe_axioms t)
+  pub counted : v.unsafe_axioms ≡ length (unsafe_axioms_of t)
 
 -- a table has one verdict
 abbrev pub OneVerdict : Type 0
