@@ -1,3 +1,4 @@
 pub mod Computing
 pub mod Drawing
 pub mod Unique
+pub mod Marking

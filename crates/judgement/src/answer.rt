@@ -1,4 +1,4 @@
-use crate::judgement::Judgement;
+use verdict::Judgement;
 
 /// A judgement, and the ledger that it was made with.
 #[derive(Drop)]

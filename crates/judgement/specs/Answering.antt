@@ -1,20 +1,18 @@
 -- What becomes of the bytes of a table, and of the ledger.
 use Rattle.std.specs.Prelude.{◌≡◌, ℕ, List, []}
 use Rattle.theory.specs.Table.{Table}
-use Rattle.chase.specs.Judging.{JudgingRefused}
+use Rattle.chase.specs.Judging.{Judges, JudgingRefused}
 use Rattle.chase.specs.Trials.{Entry, State}
 use Rattle.layout.specs.Checking.{Outcome, accepted, refused}
-use Rattle.table.specs.Answers.{meaning}
+use Rattle.verdict.specs.declared.judgement.Judgement.{Judgement}
+use Rattle.verdict.specs.declared.judgement.Judgement.TheVariants.{Found, Refused, Overfull}
 use Rattle.verdict.specs.Verdicts.{VerdictOf}
-use Rattle.judging.specs.Judgings.{JudgesIn, OverfullIn, place_of}
-use Rattle.judgement.specs.declared.judgement.Judgement.{Judgement}
-use Rattle.judgement.specs.declared.judgement.Judgement.TheVariants.{Found, Refused, Overfull}
 
 -- The table is judged and the entries are all derivable facts, or judging needs more rows and there are none.
 abbrev pub JudgedAs : Table → ℕ → Judgement → List Entry → Type 0
-JudgedAs t rows (Found j p) es = (meaning j.table ≡ t) × VerdictOf t j.verdict × ((s : State) × JudgesIn t rows s p × (es ≡ s.entries))
+JudgedAs t rows (Found v) es = VerdictOf t v × ((s : State) × Judges t rows s × (es ≡ s.entries))
 JudgedAs t rows (Refused f) es = ⊥
-JudgedAs t rows (Overfull k o) es = (meaning k ≡ t) × OverfullIn t rows o × JudgingRefused t rows (place_of o) × (es ≡ [])
+JudgedAs t rows (Overfull k) es = JudgingRefused t rows k × (es ≡ [])
 
 -- what is refused by checking stays refused
 abbrev pub Says : Outcome → ℕ → Judgement → List Entry → Type 0

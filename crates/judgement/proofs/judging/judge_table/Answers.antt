@@ -1,0 +1,8 @@
+use Rattle.verdict.proofs.Unique.{one_verdict}
+use Rattle.judgement.proofs.judging.judge_table.Goals as goal
+
+pub returns-after-judge-clause-one : goal.returns-after-judge-clause-one
+returns-after-judge-clause-one g c = one_verdict
+
+pub returns-in-Err-clause-one : goal.returns-in-Err-clause-one
+returns-in-Err-clause-one g c = one_verdict
