@@ -2,9 +2,9 @@
 #![tactic(auto)]
 
 mod answer;
-mod judging;
 mod laws;
+mod telling;
 
 pub use crate::answer::Answer;
-pub use crate::judging::judge_table;
 pub use crate::laws::marked_lines;
+pub use crate::telling::judge_table;

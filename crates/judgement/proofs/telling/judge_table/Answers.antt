@@ -1,5 +1,5 @@
 use Rattle.verdict.proofs.Unique.{one_verdict}
-use Rattle.judgement.proofs.judging.judge_table.Goals as goal
+use Rattle.judgement.proofs.telling.judge_table.Goals as goal
 
 pub returns-after-judge-clause-one : goal.returns-after-judge-clause-one
 returns-after-judge-clause-one g c = one_verdict
