@@ -4,8 +4,9 @@
 #![tactic(auto)]
 
 use anyhow::anyhow;
-use judging::judgement;
+use judgement::judge_table;
 use ledger::Entry;
+use ledgers::BitLedger;
 use std::alloc::Global;
 use std::io::Read;
 
@@ -37,8 +38,8 @@ fn table(heap: Global, sizes: &str, axioms: &str) -> anyhow::Result<Vec<u8>> {
 /// Judges one table, and prints its line after the case's name.
 fn run(rt: &HostRuntime, name: &str, rows: usize, bytes: &[u8]) -> anyhow::Result<()> {
     let mut rows = vec![in rt.alloc(); Entry::blank(); rows]?;
-    let answer = judgement(bytes, rows.as_mut_slice());
-    print!(rt; "{name}: {answer}")?;
+    let answer = judge_table(bytes, BitLedger::new(rows.as_mut_slice()));
+    print!(rt; "{name}: {}", answer.judgement)?;
     Ok(())
 }
 

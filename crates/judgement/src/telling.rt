@@ -1,4 +1,5 @@
 ghost use Rattle.std.specs.Prelude.{◌≡◌};
+ghost use Rattle.chase.specs.LawOfJudging.{JudgingStands};
 ghost use Rattle.layout.specs.Checking.{checked};
 ghost use Rattle.trial.specs.Facts.{entries_in};
 ghost use Rattle.verdict.specs.Verdicts.{OneVerdict};
@@ -16,6 +17,7 @@ pub fn judge_table<L: Ledger>(bytes: &[u8], ledger: L) -> Answer<L>
     ensures fixed { L.capacity result.ledger ≡ L.capacity ledger }
     ensures leaves { Leaves (checked bytes.now) L.valid ledger result.ledger }
     ensures one { OneVerdict }
+    ensures law { JudgingStands }
 {
     match check(bytes) {
         Ok(table) => {

@@ -1,3 +1,4 @@
+use Rattle.chase.proofs.Judging.{judging_stands}
 use Rattle.verdict.proofs.Unique.{one_verdict}
 use Rattle.judgement.proofs.telling.judge_table.Goals as goal
 
@@ -6,3 +7,6 @@ returns-after-judge-clause-one g c = one_verdict
 
 pub returns-in-Err-clause-one : goal.returns-in-Err-clause-one
 returns-in-Err-clause-one g c = one_verdict
+
+pub returns-in-Err-clause-law : goal.returns-in-Err-clause-law
+returns-in-Err-clause-law g c = judging_stands
