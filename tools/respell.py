@@ -3,7 +3,7 @@
 
 usage: python3 tools/respell.py [--list]     once, at the top, after /opt/rattle/port/port.py
 
-Types and facts become UpperCamel, everything else snake_case; a dash stays where it joins the names of two functions.
+Types and facts become UpperCamel, everything else snake_case; a dash stays in a lemma on one function of another.
 It changes the words of crates/**/specs and proofs, of the ghost parts of crates/**/src, and of the must-fail edits.
 Names that come from Rattle code, names of goals and of generated steps, and names of libraries stay.
 """
@@ -44,7 +44,7 @@ OWN = {
 # Lemmas on one function of another: here the dash stays.
 JOINED = set("""axiom_of-line_of get_or-nth get_or-zeros add-added add-grows add-short distinct-kept distinct-map distinct-take held-take joined-distinct kept-none length-codes length-each length-encode
     length-held length-kept length-listed length-said map-map spare-set strike-distinct strike-length without-length""".split())
-# The same for names that the port's own script had made, in the crates where they are such.
+# Names that the port's own script had made and that are others' now, in the crates where they are such.
 OWN_IN = {
     "held_in": ("held_in_is_held", ("start",)),
     "same_line": ("same_line_decides", ("theory", "layout")),
@@ -74,7 +74,7 @@ def imported(text):
 
 def defined():
     """Own names, with the names of types among them, and the names of fields."""
-    names, types, fields, functions, goals = collections.Counter(), set(), set(), set(), set()
+    names, types, fields, goals = collections.Counter(), set(), set(), set()
     for f in theory():
         with open(f, encoding="utf-8") as it:
             text = it.read()
@@ -93,8 +93,6 @@ def defined():
                     names[n] += 1
                     if m.group(1) and m.group(2).strip() == "pub":
                         fields.add(n)
-                    if not m.group(1):
-                        functions.add(n)
                 if re.search(r"\b(data|record)\b", m.group(2)) or line.rstrip().endswith("Type 0") or "Type 0 where" in line:
                     types.add(first)
             for m in re.finditer(r"\blet\s+(" + ID + r")\s*(?::|=|\()", line):
@@ -105,7 +103,7 @@ def defined():
                 names.update(m.group(1).split())
     for g in goals:
         names.pop(g, None)
-    return names, types, fields, functions
+    return names, types, fields
 
 
 def snake(name):
@@ -113,7 +111,7 @@ def snake(name):
     return "_".join(p if p[:1].isupper() and "_" not in p and not p.isupper() and len(p) > 1 else p.lower() for p in name.split("_"))
 
 
-def spelt(name, types, known):
+def spelt(name, types):
     if name in OWN:
         return OWN[name]
     if name in types:
@@ -131,16 +129,15 @@ def spelt(name, types, known):
 
 
 def plan():
-    names, types, fields, functions = defined()
+    names, types, fields = defined()
     library = set()
     for f in theory() + files("src/**/*.rt"):
         with open(f, encoding="utf-8") as it:
             library |= imported(it.read())
-    known = {snake(n) for n in functions if n not in types and "-" not in n} | {n for n in library if "-" not in n and n.isascii()}
     turned = dict(OWN)
     for n in names:
         if "-" in n or "′" in n or (re.search(r"[a-z0-9][A-Z]", n) and n[:1].islower()) or (n[:1].isupper() and "_" in n):
-            new = spelt(n, types, known).replace("′", "'")
+            new = spelt(n, types).replace("′", "'")
             if new != n:
                 turned[n] = new
     return names, types, fields, turned, library
@@ -159,6 +156,7 @@ def clashes(names, turned, library):
 
 
 def turn(text, turned, fields, path):
+    """A file with its names turned, but for those that it takes from libraries."""
     keep = imported(text)
     crate = path.split("/")[1]
     here = dict(turned)
@@ -175,6 +173,7 @@ def turn(text, turned, fields, path):
 
 
 def local(m, code, turned, keep, fields):
+    """One word of a line: names of goals and of the steps of a goal stay."""
     w = m.group(1)
     bare = w.strip("«»")
     if bare not in turned or bare in keep:

@@ -6,7 +6,7 @@ ghost use Rattle.verdict.specs.Verdicts.{OneVerdict};
 ghost use Rattle.judgement.specs.Answering.{Says, Leaves};
 
 use crate::answer::Answer;
-use judging::{desk_for, judge};
+use judging::{bench, judge};
 use ledger::Ledger;
 use table::check::check;
 use verdict::Judgement;
@@ -21,7 +21,7 @@ pub fn judge_table<L: Ledger>(bytes: &[u8], ledger: L) -> Answer<L>
 {
     match check(bytes) {
         Ok(table) => {
-            let mut desk = desk_for(table, ledger);
+            let mut desk = bench(table, ledger);
             let judgement = match judge(&mut desk) {
                 Ok(verdict) => Judgement::Found(verdict),
                 Err(overfull) => Judgement::Overfull(overfull.rule),

@@ -4,5 +4,5 @@
 mod judging;
 mod line;
 
-pub use crate::judging::{Overfull, desk_for, judge};
+pub use crate::judging::{Overfull, bench, judge};
 pub use crate::line::judgement;

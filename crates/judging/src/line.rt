@@ -2,7 +2,7 @@ ghost use Rattle.std.specs.Prelude.{length};
 ghost use Rattle.layout.specs.Checking.{checked};
 ghost use Rattle.judging.specs.Answering.{Says};
 
-use crate::judging::{desk_for, judge};
+use crate::judging::{bench, judge};
 use ledger::Entry;
 use ledgers::BitLedger;
 use table::check::check;
@@ -14,7 +14,7 @@ pub fn judgement(bytes: &[u8], rows: &mut [Entry]) -> Judgement
 {
     match check(bytes) {
         Ok(table) => {
-            let mut desk = desk_for(table, BitLedger::new(rows));
+            let mut desk = bench(table, BitLedger::new(rows));
             match judge(&mut desk) {
                 Ok(verdict) => Judgement::Found(verdict),
                 Err(overfull) => Judgement::Overfull(overfull.rule),
