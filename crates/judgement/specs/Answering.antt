@@ -1,18 +1,17 @@
 -- What becomes of the bytes of a table, and of the ledger.
-use Rattle.std.specs.Prelude.{◌≡◌, ℕ, List, []}
+use Rattle.std.specs.Prelude.{◌≡◌, ℕ, List, Ok, Err}
 use Rattle.theory.specs.Table.{Table}
-use Rattle.chase.specs.Judging.{Judges, JudgingRefused}
-use Rattle.chase.specs.Trials.{Entry, State}
+use Rattle.chase.specs.Trials.{Entry}
 use Rattle.layout.specs.Checking.{Outcome, accepted, refused}
 use Rattle.verdict.specs.declared.judgement.Judgement.{Judgement}
 use Rattle.verdict.specs.declared.judgement.Judgement.TheVariants.{Found, Refused, Overfull}
-use Rattle.verdict.specs.Verdicts.{VerdictOf}
+use Rattle.judging.specs.Judgings.{JudgedWith}
 
--- The table is judged and the entries are all derivable facts, or judging needs more rows and there are none.
+-- What judging answers, as a judgement: a verdict with all derivable facts, or the rule that needs more rows and no entry.
 abbrev pub JudgedAs : Table → ℕ → Judgement → List Entry → Type 0
-JudgedAs t rows (Found v) es = VerdictOf t v × ((s : State) × Judges t rows s × (es ≡ s.entries))
+JudgedAs t rows (Found v) es = JudgedWith t rows (Ok v) es
 JudgedAs t rows (Refused f) es = ⊥
-JudgedAs t rows (Overfull k) es = JudgingRefused t rows k × (es ≡ [])
+JudgedAs t rows (Overfull k) es = JudgedWith t rows (Err (record { rule = k })) es
 
 -- what is refused by checking stays refused
 abbrev pub Says : Outcome → ℕ → Judgement → List Entry → Type 0
