@@ -1,8 +1,9 @@
 // Judges the table that stands on standard input, with 4,096 rows, and prints its verdict or its refusal.
 #![tactic(auto)]
 
-use judging::judgement;
+use judgement::judge_table;
 use ledger::Entry;
+use ledgers::BitLedger;
 use std::io;
 use std::io::Read;
 
@@ -13,6 +14,6 @@ fn main(rt: HostRuntime) -> io::Result<()> {
     let mut bytes = Vec::new(rt.alloc());
     let _ = rt.stdin().read_to_end(&mut bytes)?;
     let mut rows = vec![in rt.alloc(); Entry::blank(); ROWS]?;
-    let answer = judgement(bytes.as_slice(), rows.as_mut_slice());
-    print!(rt; "{answer}")
+    let answer = judge_table(bytes.as_slice(), BitLedger::new(rows.as_mut_slice()));
+    print!(rt; "{}", answer.judgement)
 }

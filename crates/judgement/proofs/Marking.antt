@@ -4,7 +4,7 @@ use Rattle.std.proofs.lemmas.Fmt.{decimal_digit}
 use Rattle.theory.specs.Table.{Table}
 use Rattle.theory.specs.WellFormed.{well_formed}
 use Rattle.theory.proofs.Accepting.{well_formed_decides}
-use Rattle.layout.specs.Checking.{checked}
+use Rattle.layout.specs.Checking.{checked, accepted}
 use Rattle.layout.specs.Encoding.{encode}
 use Rattle.layout.proofs.Writing.{table_read_back}
 use Rattle.chase.specs.Examples.{JudgedTo}
@@ -16,10 +16,10 @@ use Rattle.shapes.specs.declared.shape.Shape.{Shape}
 use Rattle.verdict.specs.Marked.{found}
 use Rattle.verdict.specs.Verdicts.{VerdictOf}
 use Rattle.verdict.proofs.Unique.{one_verdict}
-use Rattle.verdict.specs.declared.judgement.Judgement.{Judgement}
-use Rattle.verdict.specs.declared.judgement.Judgement.TheVariants.{Found, Refused, Overfull}
+use Rattle.judgement.specs.declared.judgement.Judgement.{Judgement}
+use Rattle.judgement.specs.declared.judgement.Judgement.TheVariants.{Found, Refused, Overfull}
 use Rattle.judgement.specs.Answering.{Says, JudgedAs}
-use Rattle.verdict.specs.Lines.{newline, shape_text, verdict_text, judgement_text}
+use Rattle.judgement.specs.Lines.{newline, shape_text, verdict_text, judgement_text}
 
 -- a verdict with numbers below ten, byte by byte
 abbrev short_line : Shape → ℕ → ℕ → List ℕ
@@ -33,8 +33,8 @@ pub line_of : (t : Table) (s : Shape) (h u : ℕ) (unsafe : List ℕ) (drawn : L
 line_of t s h u unsafe drawn a b ok fits own judged j es said = go j (subst (λ o. Says o 4096 j es) (table_read_back t ((well_formed_decides t).0 ok)) said)
   where
     go : (k : Judgement) → JudgedAs t 4096 k es → judgement_text k ≡ short_line s h u
-    go (Found v) (one, rest) = ap verdict_text (one_verdict t v (found s h u) one own) ∙ short s h u a b
+    go (Found k p) (same, one, rest) = ap verdict_text (one_verdict t k.verdict (found s h u) one own) ∙ short s h u a b
     go (Refused f) never = absurd never
-    go (Overfull k) (place, none) =
+    go (Overfull k o) (same, why, place, none) =
         let law = judging_stands t ((well_formed_decides t).0 ok) in
-        absurd (omega (arith, law.refused_only 4096 k place, law.judged_only 4096 _ (record { fits = fits; budget = 100000; quiet = judged.saturated; ends = refl })))
+        absurd (omega (arith, law.refused_only 4096 _ place, law.judged_only 4096 _ (record { fits = fits; budget = 100000; quiet = judged.saturated; ends = refl })))

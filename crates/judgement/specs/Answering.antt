@@ -1,17 +1,20 @@
 -- What becomes of the bytes of a table, and of the ledger.
-use Rattle.std.specs.Prelude.{◌≡◌, ℕ, List, Ok, Err}
+use Rattle.std.specs.Prelude.{◌≡◌, ℕ, List, []}
 use Rattle.theory.specs.Table.{Table}
-use Rattle.chase.specs.Trials.{Entry}
+use Rattle.chase.specs.Judging.{JudgingRefused}
+use Rattle.chase.specs.Trials.{Entry, State}
 use Rattle.layout.specs.Checking.{Outcome, accepted, refused}
-use Rattle.verdict.specs.declared.judgement.Judgement.{Judgement}
-use Rattle.verdict.specs.declared.judgement.Judgement.TheVariants.{Found, Refused, Overfull}
-use Rattle.judging.specs.Judgings.{JudgedWith}
+use Rattle.table.specs.Answers.{meaning}
+use Rattle.verdict.specs.Verdicts.{VerdictOf}
+use Rattle.judging.specs.Judgings.{JudgesIn, OverfullIn, place_of}
+use Rattle.judgement.specs.declared.judgement.Judgement.{Judgement}
+use Rattle.judgement.specs.declared.judgement.Judgement.TheVariants.{Found, Refused, Overfull}
 
--- What judging answers, as a judgement: a verdict with all derivable facts, or the rule that needs more rows and no entry.
+-- The table is judged and the entries are all derivable facts, or judging needs more rows and there are none.
 abbrev pub JudgedAs : Table → ℕ → Judgement → List Entry → Type 0
-JudgedAs t rows (Found v) es = JudgedWith t rows (Ok v) es
+JudgedAs t rows (Found j p) es = (meaning j.table ≡ t) × VerdictOf t j.verdict × ((s : State) × JudgesIn t rows s p × (es ≡ s.entries))
 JudgedAs t rows (Refused f) es = ⊥
-JudgedAs t rows (Overfull k) es = JudgedWith t rows (Err (record { rule = k })) es
+JudgedAs t rows (Overfull k o) es = (meaning k ≡ t) × OverfullIn t rows o × JudgingRefused t rows (place_of o) × (es ≡ [])
 
 -- what is refused by checking stays refused
 abbrev pub Says : Outcome → ℕ → Judgement → List Entry → Type 0

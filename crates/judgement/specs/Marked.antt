@@ -5,9 +5,9 @@ use Rattle.layout.specs.Checking.{checked}
 use Rattle.layout.specs.Encoding.{encode}
 use Rattle.chase.specs.Examples as tables
 use Rattle.chase.specs.Trials.{Entry}
-use Rattle.verdict.specs.declared.judgement.Judgement.{Judgement}
-use Rattle.verdict.specs.Lines.{newline, judgement_text}
+use Rattle.judgement.specs.declared.judgement.Judgement.{Judgement}
 use Rattle.judgement.specs.Answering.{Says}
+use Rattle.judgement.specs.Lines.{newline, judgement_text}
 
 -- Whatever is said of the table's bytes with 4,096 rows, the line is this.
 abbrev pub LineIs : Table → List ℕ → Type 0

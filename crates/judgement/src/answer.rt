@@ -1,4 +1,4 @@
-use verdict::Judgement;
+use crate::judgement::Judgement;
 
 /// A judgement, and the ledger that it was made with.
 #[derive(Drop)]

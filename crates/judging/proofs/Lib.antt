@@ -1,2 +1,2 @@
-pub mod Finding
+pub mod Counts
 pub mod Running

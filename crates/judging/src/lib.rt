@@ -1,8 +1,9 @@
 // Judging a table, over any ledger.
 #![tactic(auto)]
 
+mod finding;
 mod judging;
-mod line;
+mod place;
 
-pub use crate::judging::{Overfull, bench, judge};
-pub use crate::line::judgement;
+pub use crate::finding::{Finding, Overfull};
+pub use crate::judging::{desk_for, judge};

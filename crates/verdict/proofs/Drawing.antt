@@ -1,10 +1,10 @@
 -- Edges drawn entry by entry.
-use Rattle.std.proofs.Common.{◌≡◌, ℕ, zero, suc, ◌+◌, Bool, true, false, ◌&&◌, ◌||◌, eqb, List, [], ◌∷◌, take, Some, sym, refl, ap, ◌∙◌, add-one, eq-eqb}
+use Rattle.std.proofs.Common.{◌≡◌, ℕ, zero, suc, ◌+◌, Bool, true, false, ◌&&◌, ◌||◌, eqb, List, [], ◌∷◌, length, take, Some, sym, refl, ap, ◌∙◌, add-one, arith, eq-eqb}
 use Rattle.std.specs.List.{slice_get}
 use Rattle.theory.specs.Lists.{any_of}
 use Rattle.theory.proofs.Places.{no_some}
 use Rattle.ledger.specs.declared.fact.Fact.{Fact}
-use Rattle.ledger.specs.declared.fact.Fact.TheVariants.{Link}
+use Rattle.ledger.specs.declared.fact.Fact.TheVariants.{Is, Link}
 use Rattle.names.specs.declared.Role.{Role}
 use Rattle.names.specs.declared.Term.{Term}
 use Rattle.verdict.specs.Links.{links}

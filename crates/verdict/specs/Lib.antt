@@ -1,4 +1,3 @@
-pub mod Lines
 pub mod Links
 pub mod Marked
 pub mod Verdicts

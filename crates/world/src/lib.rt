@@ -2,7 +2,9 @@
 #![tactic(auto)]
 
 mod attempt;
+mod fault;
 mod world;
 
-pub use crate::attempt::{Attempt, Lacking, Variables};
+pub use crate::attempt::{Attempt, Variables};
+pub use crate::fault::{In, Lacking, within};
 pub use crate::world::World;

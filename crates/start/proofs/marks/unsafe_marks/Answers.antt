@@ -1,4 +1,4 @@
-use Rattle.std.proofs.Common.{◌≡◌, ℕ, ◌+◌, ◌<◌, Bool, List, length, sym, refl, ap, ◌∙◌, subst, arith}
+use Rattle.std.proofs.Common.{◌≡◌, ℕ, ◌+◌, ◌<◌, Bool, false, List, length, get_or, sym, refl, ap, ◌∙◌, subst, arith}
 use Rattle.table.specs.Answers.{meaning}
 use Rattle.chase.specs.Trials.{term_at}
 use Rattle.start.specs.Starting.{terms_to}

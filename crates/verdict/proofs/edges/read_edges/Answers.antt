@@ -1,4 +1,4 @@
-use Rattle.std.proofs.Common.{◌<◌, ◌≤◌, ◌||◌, length, sym, refl, ap, ◌∙◌, arith, take_all}
+use Rattle.std.proofs.Common.{◌≡◌, ◌<◌, ◌≤◌, ◌||◌, length, take, sym, refl, ap, ◌∙◌, subst, arith, take_all}
 use Rattle.graph.specs.Digraph.{Digraph}
 use Rattle.theory.specs.Lists.{any_of}
 use Rattle.theory.proofs.Places.{nth_some, no_some}

@@ -1,18 +1,13 @@
 ghost use Rattle.std.specs.Prelude.{Some};
-ghost use Rattle.verdict.specs.Lines.{shape_text, judgement_text};
+ghost use Rattle.judgement.specs.Lines.{shape_text, judgement_text};
 
-use crate::verdict::Verdict;
-use layout::refusal::Refusal;
+use crate::judgement::Judgement;
 use shapes::shape::Shape;
 use std::fmt::{Display, Formatter, Result, Write};
+use verdict::Verdict;
 
-/// What became of a table: its verdict, a refusal of the table, or the rule at which the ledger's rows did not suffice, 0 before the first.
-#[derive(Clone, Copy)]
-pub enum Judgement {
-    Found(Verdict),
-    Refused(Refusal),
-    Overfull(u16),
-}
+/// The number of the refusal for want of rows.
+const OVERFULL: u8 = 9;
 
 /// A shape by its name.
 #[derive(Drop)]
@@ -35,19 +30,22 @@ impl Display for Judgement {
 
     fn fmt<W: Write>(&self, f: &mut Formatter<W>) -> Result {
         match self {
-            Judgement::Found(verdict) => {
-                let height = verdict.height;
-                let count = verdict.unsafe_axioms;
-                writeln!(f, "{} h={height} u={count}", ShapeName(verdict.shape))
+            Judgement::Found(judged, _) => {
+                let Verdict {
+                    shape,
+                    height,
+                    unsafe_axioms,
+                } = judged.verdict();
+                writeln!(f, "{} h={height} u={unsafe_axioms}", ShapeName(shape))
             }
             Judgement::Refused(refusal) => {
                 let number = refusal.number();
                 let place = refusal.place();
                 writeln!(f, "refused {number} at {place}")
             }
-            Judgement::Overfull(rule) => {
-                let number = 9u8;
-                writeln!(f, "refused {number} at {rule}")
+            Judgement::Overfull(_, overfull) => {
+                let place = overfull.place();
+                writeln!(f, "refused {OVERFULL} at {place}")
             }
         }
     }

@@ -1,10 +1,11 @@
 -- The line that says what became of a table, byte by byte.
 use Rattle.std.specs.Prelude.{ℕ, List, [], ◌∷◌, ◌++◌, codes, decimal}
-use Rattle.layout.specs.Refusals.{number_of, place_of}
+use Rattle.layout.specs.Refusals as table
+use Rattle.judging.specs.Judgings.{place_of}
 use Rattle.shapes.specs.declared.shape.Shape.{Shape}
 use Rattle.shapes.specs.declared.shape.Shape.TheVariants.{Forest, Acyclic, Cyclic}
-use Rattle.verdict.specs.declared.judgement.Judgement.{Judgement}
-use Rattle.verdict.specs.declared.judgement.Judgement.TheVariants.{Found, Refused, Overfull}
+use Rattle.judgement.specs.declared.judgement.Judgement.{Judgement}
+use Rattle.judgement.specs.declared.judgement.Judgement.TheVariants.{Found, Refused, Overfull}
 use Rattle.verdict.specs.declared.verdict.Verdict.{Verdict}
 
 abbrev pub newline : List ℕ
@@ -22,11 +23,11 @@ verdict_text v = shape_text v.shape ++ (codes " h=" ++ (decimal v.height ++ (cod
 abbrev pub refused_text : ℕ → ℕ → List ℕ
 refused_text n p = codes "refused " ++ (decimal n ++ (codes " at " ++ (decimal p ++ newline)))
 
--- the number of a refusal, of the table or for want of rows
+-- the number of the refusal for want of rows
 abbrev pub overfull : ℕ
 overfull = 9
 
 abbrev pub judgement_text : Judgement → List ℕ
-judgement_text (Found v) = verdict_text v
-judgement_text (Refused f) = refused_text (number_of f) (place_of f)
-judgement_text (Overfull k) = refused_text overfull k
+judgement_text (Found j p) = verdict_text j.verdict
+judgement_text (Refused f) = refused_text (table.number_of f) (table.place_of f)
+judgement_text (Overfull k o) = refused_text overfull (place_of o)
