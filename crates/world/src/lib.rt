@@ -5,6 +5,6 @@ mod attempt;
 mod fault;
 mod world;
 
-pub use crate::attempt::{Attempt, Variables};
+pub use crate::attempt::{Attempt, Triple};
 pub use crate::fault::{In, Lacking, within};
 pub use crate::world::World;
