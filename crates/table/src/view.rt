@@ -1,4 +1,4 @@
-ghost use Rattle.std.specs.Prelude.{◌≡◌, true, length, take, Decides};
+ghost use Rattle.std.specs.Prelude.{◌≡◌, ◌≤◌, true, map, length, take, Decides};
 ghost use Rattle.std.specs.List.{slice_get};
 ghost use Rattle.std.specs.Option.{option_map};
 ghost use Rattle.theory.specs.Lists.{count_of, up_from};
@@ -29,8 +29,10 @@ fn has_unsafe(sizes: Sizes, axioms: &[Axiom], axiom: Axiom) -> bool
 }
 
 impl Checked {
-    /// Its axioms, without the places that it does not use.
-    fn stated(&self) -> &[Axiom]
+    /// Its axioms, in their order.
+    pub fn axioms(&self) -> &[Axiom]
+        ensures means { map axiom_in result.now ≡ (meaning self.now).axioms }
+        ensures few { length result.now ≤ 64 }
         ensures value { result.now ≡ take self.now.sizes.axioms self.now.axioms }
         ensures all { length result.now ≡ self.now.sizes.axioms }
     {
@@ -48,7 +50,7 @@ impl Checked {
             concepts: self.sizes.concepts,
             roles: self.sizes.roles,
             individuals: self.sizes.individuals,
-            axioms: self.stated().len() as u16,
+            axioms: self.axioms().len() as u16,
         }
     }
 
@@ -56,7 +58,7 @@ impl Checked {
     pub fn axiom(&self, k: usize) -> Option<Axiom>
         ensures { option_map axiom_in result ≡ slice_get (meaning self.now).axioms k }
     {
-        self.stated().get(k).copied()
+        self.axioms().get(k).copied()
     }
 
     /// Whether the one role expression is included in the other: an undeclared one only in itself.
@@ -65,7 +67,7 @@ impl Checked {
     {
         let roles = self.sizes.roles as usize;
         if lower.name() < roles && upper.name() < roles {
-            is_included(self.sizes, self.stated(), lower, upper)
+            is_included(self.sizes, self.axioms(), lower, upper)
         } else {
             lower.is(upper)
         }
@@ -76,7 +78,7 @@ impl Checked {
         ensures { Decides result (Simple (meaning self.now) role.number) }
     {
         if u16::from(role.number) < self.sizes.roles {
-            is_simple(self.sizes, self.stated(), role)
+            is_simple(self.sizes, self.axioms(), role)
         } else {
             true
         }
@@ -88,7 +90,7 @@ impl Checked {
         ensures computes { result ≡ is_unsafe (meaning self.now) k }
     {
         match self.axiom(k) {
-            Some(axiom) => has_unsafe(self.sizes, self.stated(), axiom),
+            Some(axiom) => has_unsafe(self.sizes, self.axioms(), axiom),
             None => false,
         }
     }
@@ -99,7 +101,7 @@ impl Checked {
     {
         let mut simple = 0;
         for number in 0..self.sizes.roles as u8 {
-            if is_simple(self.sizes, self.stated(), Role { number }) {
+            if is_simple(self.sizes, self.axioms(), Role { number }) {
                 simple += 1;
             }
         }
@@ -110,7 +112,7 @@ impl Checked {
     pub fn witness_axioms(&self) -> usize
         ensures { result ≡ count_of (has_form 8) (meaning self.now).axioms }
     {
-        let axioms = self.stated();
+        let axioms = self.axioms();
         let mut witnesses = 0;
         for axiom in axioms {
             if axiom.asks_witness() {
@@ -125,7 +127,7 @@ impl Checked {
         ensures { result ≡ count_of (is_unsafe (meaning self.now)) (up_from 0 (length (meaning self.now).axioms)) }
     {
         let mut count = 0;
-        for k in 0..self.stated().len() {
+        for k in 0..self.axioms().len() {
             if self.is_unsafe(k) {
                 count += 1;
             }

@@ -7,5 +7,5 @@ use Rattle.table.proofs.checked.Checked.axiom.Goals as goal
 
 pub returns : goal.returns
 returns c =
-    ap (option_map axiom_in) c.copied.ensures ∙ picked axiom_in c.stated.result.now c.args.k c.get.result c.get.ensures.lookup
-    ∙ ap (λ l. slice_get (map axiom_in l) c.args.k) c.stated.ensures.value
+    ap (option_map axiom_in) c.copied.ensures ∙ picked axiom_in c.axioms.result.now c.args.k c.get.result c.get.ensures.lookup
+    ∙ ap (λ l. slice_get (map axiom_in l) c.args.k) c.axioms.ensures.value

@@ -14,7 +14,7 @@ returns-then-name-roles-2 c =
     let e = expression_in c.args.lower in
     let f = expression_in c.args.upper in
     subst (λ b. Decides b (Included t e f))
-    (sym (c.is_included.ensures ∙ ap (λ l. included (table_of c.args.self.now.sizes l) e f) c.stated.ensures.value))
+    (sym (c.is_included.ensures ∙ ap (λ l. included (table_of c.args.self.now.sizes l) e f) c.axioms.ensures.value))
     (included_decides t (sound_declared t c.args.self.now.sound) e f (omega arith) (omega arith))
 
 pub returns-else-name-roles : goal.returns-else-name-roles

@@ -11,7 +11,7 @@ returns-then-from-self c =
     let t = meaning c.args.self.now in
     let s = c.args.role.number in
     subst (λ b. Decides b (Simple t s))
-    (sym (c.is_simple.ensures ∙ ap (λ l. is_simple (table_of c.args.self.now.sizes l) s) c.stated.ensures.value))
+    (sym (c.is_simple.ensures ∙ ap (λ l. is_simple (table_of c.args.self.now.sizes l) s) c.axioms.ensures.value))
     (simple_decides t (sound_declared t c.args.self.now.sound) s (omega arith))
 
 pub returns-else-from-self : goal.returns-else-from-self

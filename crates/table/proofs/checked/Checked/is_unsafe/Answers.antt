@@ -12,7 +12,7 @@ pub has_unsafe-requires : goal.has_unsafe-requires
 has_unsafe-requires c =
     let t = meaning c.args.self.now in
     let a = axiom_in c.in-Some.axiom in
-    ap (λ l. declares (table_of c.args.self.now.sizes l) a) c.stated.ensures.value
+    ap (λ l. declares (table_of c.args.self.now.sizes l) a) c.axioms.ensures.value
     ∙ sound_declared t c.args.self.now.sound a (nth_in t.axioms c.args.k a (sym c.in-Some.ensures))
 
 pub returns-in-Some : goal.returns-in-Some
@@ -20,7 +20,7 @@ returns-in-Some c =
     let t = meaning c.args.self.now in
     let a = axiom_in c.in-Some.axiom in
     let same : c.has_unsafe.result ≡ is_unsafe t c.args.k =
-    c.has_unsafe.ensures ∙ ap (λ l. has_unsafe (table_of c.args.self.now.sizes l) a) c.stated.ensures.value ∙ ap (unsafe_in t) c.in-Some.ensures in
+    c.has_unsafe.ensures ∙ ap (λ l. has_unsafe (table_of c.args.self.now.sizes l) a) c.axioms.ensures.value ∙ ap (unsafe_in t) c.in-Some.ensures in
     record {
       decides = subst (λ b. Decides b (Unsafe t c.args.k)) (sym same) (unsafe_decides t (sound_declared t c.args.self.now.sound) c.args.k);
       computes = same;

@@ -14,7 +14,7 @@ loop-number-preserved c =
     let n = c.args.self.now.sizes.roles in
     let k = c.loop-number.number in
     let at = up_at n k c.loop-number-test.true in
-    let is = sym (c.is_simple.ensures ∙ ap (λ l. is_simple (table_of c.args.self.now.sizes l) k) c.stated.ensures.value) in
+    let is = sym (c.is_simple.ensures ∙ ap (λ l. is_simple (table_of c.args.self.now.sizes l) k) c.axioms.ensures.value) in
     elim c.if-is_simple.branch [
       | then-is_simple w ↦ (w.simple-is ∙ counted p (up_from 0 n) k c.loop-number.simple c.loop-number.invariant.0 k at (is ∙ w.if-is_simple.true), omega (arith, w.simple-is))
       | else-is_simple w ↦ (w.simple-is ∙ passed_over p (up_from 0 n) k c.loop-number.simple c.loop-number.invariant.0 k at (is ∙ w.if-is_simple.false), omega (arith, w.simple-is))

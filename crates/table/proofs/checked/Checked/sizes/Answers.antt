@@ -8,5 +8,5 @@ returns c = record {
   concepts = refl;
   roles = refl;
   individuals = refl;
-  axioms = sym (length-map c.stated.result.now axiom_in) ∙ ap (λ l. length (map axiom_in l)) c.stated.ensures.value;
+  axioms = sym (length-map c.axioms.result.now axiom_in) ∙ ap (λ l. length (map axiom_in l)) c.axioms.ensures.value;
 }

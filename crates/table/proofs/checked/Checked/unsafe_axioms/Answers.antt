@@ -12,7 +12,7 @@ use Rattle.table.proofs.checked.Checked.unsafe_axioms.Goals.{then-is_unsafe, els
 pub loop-k-preserved : goal.loop-k-preserved
 loop-k-preserved c =
     let p = is_unsafe (meaning c.args.self.now) in
-    let n = length c.stated-k-end.result.now in
+    let n = length c.axioms-k-end.result.now in
     let k = c.loop-k.k in
     let at = up_at n k c.loop-k-test.true in
     let is = sym c.is_unsafe.ensures.computes in
@@ -24,6 +24,6 @@ loop-k-preserved c =
 pub returns : goal.returns
 returns c =
     let p = is_unsafe (meaning c.args.self.now) in
-    let n = length c.stated-k-end.result.now in
+    let n = length c.axioms-k-end.result.now in
     counted_all p (up_from 0 n) c.loop-k.k c.loop-k.count c.loop-k.invariant.0 (omega (arith, length_up 0 n))
-    ∙ ap (λ m. count_of p (up_from 0 m)) (sym (length-map c.stated-k-end.result.now axiom_in) ∙ ap (λ l. length (map axiom_in l)) c.stated-k-end.ensures.value)
+    ∙ ap (λ m. count_of p (up_from 0 m)) (sym (length-map c.axioms-k-end.result.now axiom_in) ∙ ap (λ l. length (map axiom_in l)) c.axioms-k-end.ensures.value)

@@ -10,9 +10,9 @@ use Rattle.table.proofs.checked.Checked.witness_axioms.Goals.{then-asks_witness,
 
 pub loop-axiom-preserved : goal.loop-axiom-preserved
 loop-axiom-preserved c =
-    let l = map axiom_in c.stated-axioms.result.now in
+    let l = map axiom_in c.axioms-axioms.result.now in
     let a = axiom_in c.axiom-item.result in
-    let at = nth_mapped axiom_in c.stated-axioms.result.now c.loop-axiom.axiom-index c.axiom-item.result c.loop-axiom-test.true c.axiom-item.is in
+    let at = nth_mapped axiom_in c.axioms-axioms.result.now c.loop-axiom.axiom-index c.axiom-item.result c.loop-axiom-test.true c.axiom-item.is in
     let is = sym c.asks_witness.ensures in
     elim c.if-asks_witness.branch [
       | then-asks_witness w ↦ (w.witnesses-is ∙ counted (has_form 8) l c.loop-axiom.axiom-index c.loop-axiom.witnesses c.loop-axiom.invariant.0 a at (is ∙ w.if-asks_witness.true), omega (arith, w.witnesses-is))
@@ -21,5 +21,5 @@ loop-axiom-preserved c =
 
 pub returns : goal.returns
 returns c =
-    counted_all (has_form 8) (map axiom_in c.stated-axioms.result.now) c.loop-axiom.axiom-index c.loop-axiom.witnesses c.loop-axiom.invariant.0 (simp length-map c.loop-axiom-test.false)
-    ∙ ap (λ l. count_of (has_form 8) (map axiom_in l)) c.stated-axioms.ensures.value
+    counted_all (has_form 8) (map axiom_in c.axioms-axioms.result.now) c.loop-axiom.axiom-index c.loop-axiom.witnesses c.loop-axiom.invariant.0 (simp length-map c.loop-axiom-test.false)
+    ∙ ap (λ l. count_of (has_form 8) (map axiom_in l)) c.axioms-axioms.ensures.value
