@@ -1,6 +1,8 @@
 -- The marked verdicts, proved from the definitions.
 use Rattle.std.proofs.Common.{[], ◌∷◌, length, sym, refl, ap, lit≤}
 use Rattle.shapes.proofs.Computing.{shape_computes, height_computes}
+use Rattle.theory.proofs.Accepting.{well_formed_decides}
+use Rattle.layout.proofs.Writing.{table_read_back}
 use Rattle.chase.specs.Examples.{lodge, one_way, loop, two_levels}
 use Rattle.chase.specs.Fact.{role, edge}
 use Rattle.chase.proofs.Evaluate.{examples}
@@ -15,6 +17,8 @@ marked =
     let r = drawing loop (role edge 1 1 ∷ []) in
     let w = drawing two_levels (role edge 1 3 ∷ role edge 1 4 ∷ role edge 2 3 ∷ role edge 2 4 ∷ []) in
     record {
+      lodge_long = refl;
+      lodge_read = table_read_back lodge ((well_formed_decides lodge).0 refl);
       lodge =
           record {
             graph = l;

@@ -1,7 +1,7 @@
-ghost use Rattle.std.specs.Prelude.{◌≡◌, ℕ, Decides};
+ghost use Rattle.std.specs.Prelude.{◌≡◌, ℕ};
 ghost use Rattle.policy.specs.Nesting.{nested_by};
 ghost use Rattle.table.specs.Answers.{meaning};
-ghost use Rattle.theory.specs.Roles.{Unsafe, is_unsafe};
+ghost use Rattle.theory.specs.Roles.{is_unsafe};
 ghost use Rattle.verdict.specs.Verdicts.{VerdictOf};
 
 use crate::verdict::Verdict;
