@@ -1,5 +1,5 @@
 -- Edges drawn entry by entry.
-use Rattle.std.proofs.Common.{◌≡◌, ℕ, zero, suc, ◌+◌, Bool, true, false, ◌&&◌, ◌||◌, eqb, List, [], ◌∷◌, ◌++◌, length, Some, Option, sym, refl, ap, ◌∙◌, add-one, eq-eqb}
+use Rattle.std.proofs.Common.{◌≡◌, ℕ, zero, suc, ◌+◌, Bool, true, false, ◌&&◌, ◌||◌, eqb, List, [], ◌∷◌, ◌++◌, length, Option, sym, refl, ap, ◌∙◌, add-one, eq-eqb}
 use Rattle.std.specs.Fn.{Called}
 use Rattle.std.specs.Iterator.{Drains}
 use Rattle.std.specs.List.{slice_get, filter_map, cons_option, range_with_len, FoldsTo}
@@ -9,7 +9,7 @@ use denote.Param.Members.{Mut}
 use Rattle.theory.specs.Lists.{any_of}
 use Rattle.ledger.specs.declared.fact.Entry.{Entry}
 use Rattle.ledger.specs.declared.fact.Fact.{Fact}
-use Rattle.ledger.specs.declared.fact.Fact.TheVariants.{Is, Link}
+use Rattle.ledger.specs.declared.fact.Fact.TheVariants.{Link}
 use Rattle.names.specs.declared.Role.{Role}
 use Rattle.names.specs.declared.Term.{Term}
 use Rattle.shapes.specs.declared.rows.Rows.{Rows}
