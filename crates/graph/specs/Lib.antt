@@ -1,2 +1,3 @@
 pub mod Digraph
 pub mod Reached
+pub mod Visits

@@ -1,48 +1,46 @@
-ghost use Rattle.std.specs.Prelude.{◌≡◌, ℕ, ◌<◌, ◌≤◌, true, false, ◌||◌, Decides, MatchOption};
-ghost use Rattle.graph.specs.Digraph.{Leads, marks};
+ghost use Rattle.std.specs.Prelude.{◌≡◌, ℕ, ◌<◌, Decides, MatchOption};
+ghost use Rattle.graph.specs.Digraph.{Leads};
+ghost use Rattle.graph.specs.declared.reach.Visit.TheVariants.{Seen};
+ghost use Rattle.graph.specs.Visits.{visit_at, Follows};
 
 use crate::graph::{Graph, MOST};
+use std::array;
+
+/// How far a search has come with a node.
+#[derive(Clone, Copy, PartialEq, Eq)]
+enum Visit {
+    Unseen,
+    Seen,
+    Followed,
+}
 
 /// The first node that was seen and not yet followed.
-fn waiting(seen: &[bool; MOST], followed: &[bool; MOST], n: usize) -> Option<usize>
-    requires { n ≤ 48 }
-    ensures { MatchOption result ((k : ℕ) → k < n → marks seen.now k ≡ true → marks followed.now k ≡ true) (λ x. (x < n) × (marks seen.now x ≡ true) × (marks followed.now x ≡ false)) }
+fn waiting(visits: &[Visit; MOST]) -> Option<usize>
+    ensures { MatchOption result ((k : ℕ) → k < 48 → visit_at visits.now k ≡ Seen → ⊥) (λ x. (x < 48) × (visit_at visits.now x ≡ Seen)) }
 {
-    for x in 0..n {
-        if seen[x] && !followed[x] {
-            return Some(x);
-        }
-    }
-    None
+    visits.iter().position(|visit| *visit == Visit::Seen)
 }
 
-/// Adds each node that an edge from `x` leads to.
-fn spread<G: Graph>(g: &G, x: usize, seen: &mut [bool; MOST])
+/// How far the search has come with `y` once `x` is followed: an edge from `x` to `y` shows `y`.
+fn followed<G: Graph>(g: &G, x: usize, y: usize, visit: Visit) -> Visit
     requires { x < (G.digraph g.now).nodes }
-    ensures { (y : ℕ) → y < (G.digraph g.now).nodes → marks seen.new y ≡ (marks seen.old y || (G.digraph g.now).edge x y) }
+    ensures { Follows (G.digraph g.now) x y visit result }
 {
-    for y in 0..g.nodes() {
-        if !seen[y] && g.edge(x, y) {
-            seen[y] = true;
-        }
+    if y == x {
+        Visit::Followed
+    } else if visit == Visit::Unseen && y < g.nodes() && g.edge(x, y) {
+        Visit::Seen
+    } else {
+        visit
     }
 }
 
-/// Whether a path of zero or more edges leads from one node to another.
-fn search<G: Graph>(g: &G, a: usize, b: usize) -> bool
-    requires from { a < (G.digraph g.now).nodes }
-    requires to { b < (G.digraph g.now).nodes }
-    ensures { Decides result (Leads (G.digraph g.now) a b) }
+/// Follows the edges from `x`.
+fn follow<G: Graph>(g: &G, x: usize, visits: &[Visit; MOST]) -> [Visit; MOST]
+    requires { x < (G.digraph g.now).nodes }
+    ensures { (y : ℕ) → y < 48 → Follows (G.digraph g.now) x y (visit_at visits.now y) (visit_at result y) }
 {
-    let n = g.nodes();
-    let mut seen = [false; MOST];
-    let mut followed = [false; MOST];
-    seen[a] = true;
-    while let Some(x) = waiting(&seen, &followed, n) {
-        followed[x] = true;
-        spread(g, x, &mut seen);
-    }
-    seen[b]
+    array::from_fn(|y| followed(g, x, y, visits[y]))
 }
 
 /// Whether a path of zero or more edges leads from `a` to `b`. No edge leads to or from a number that is no node.
@@ -50,9 +48,13 @@ pub fn reaches<G: Graph>(g: &G, a: usize, b: usize) -> bool
     ensures { Decides result (Leads (G.digraph g.now) a b) }
 {
     let n = g.nodes();
-    if a < n && b < n {
-        search(g, a, b)
-    } else {
-        a == b
+    if a >= n || b >= n {
+        return a == b;
     }
+    let mut visits = [Visit::Unseen; MOST];
+    visits[a] = Visit::Seen;
+    while let Some(x) = waiting(&visits) {
+        visits = follow(g, x, &visits);
+    }
+    visits[b] != Visit::Unseen
 }

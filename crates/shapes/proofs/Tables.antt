@@ -4,10 +4,15 @@ use mathlib.Core.Path.{fun_ext}
 use Rattle.std.proofs.lemmas.Bool.{cases_eq, eq-eqb, ne_eqb, or_right, and_left}
 use Rattle.graph.specs.Digraph.{Digraph}
 use Rattle.shapes.specs.Views.{tabled, edgeless, with_edge}
-use Rattle.graph.proofs.Sweep.{unset}
 
 same_edges : (n : ℕ) (e f : ℕ → ℕ → Bool) → ((x y : ℕ) → e x y ≡ f x y) → ◌≡◌ {A = Digraph} (record { nodes = n; edge = e }) (record { nodes = n; edge = f })
 same_edges n e f h = ap (λ (d : ℕ → ℕ → Bool). record { nodes = n; edge = d }) (fun_ext (λ x. fun_ext (λ y. h x y)))
+
+-- no mark is set
+unset : (n i : ℕ) → get_or (replicate n false) i false ≡ false
+unset zero i = refl
+unset (suc n) zero = refl
+unset (suc n) (suc i) = unset n i
 
 blank : (m k x : ℕ) → (get_or (replicate m (replicate k false)) x [] ≡ replicate k false) ⊎ (get_or (replicate m (replicate k false)) x [] ≡ [])
 blank zero k x = inr refl
