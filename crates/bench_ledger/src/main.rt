@@ -5,6 +5,7 @@
 use ledger::{Added, Entry, Fact, Ledger};
 use ledgers::{BitLedger, ListLedger};
 use names::{Role, Term};
+use std::fmt::{self, Display, Formatter, Write};
 use std::{env, io};
 
 /// How many rows a ledger has.
@@ -17,13 +18,29 @@ const FACTS: u32 = 5760;
 const CALLS: u32 = 524_288;
 
 /// What became of the calls.
-#[derive(Clone, Copy)]
+#[derive(Clone, Copy, Default)]
 struct Counts {
     appended: u32,
     known: u32,
     refused: u32,
     held: u32,
     missing: u32,
+}
+
+impl Display for Counts {
+    fn fmt<W: Write>(&self, f: &mut Formatter<W>) -> fmt::Result {
+        let Counts {
+            appended,
+            known,
+            refused,
+            held,
+            missing,
+        } = *self;
+        write!(
+            f,
+            "{appended} appended, {known} known, {refused} refused, {held} held, {missing} missing"
+        )
+    }
 }
 
 /// A fact by a number; numbers below 23,040 give different facts.
@@ -46,70 +63,40 @@ fn link(number: u32) -> Fact {
 /// Adds the facts of that many numbers, asks for each of them, and counts the answers.
 fn fill_and_ask<L: Ledger>(ledger: &mut L, numbers: u32) -> Counts {
     ledger.empty();
-    let mut counts = Counts {
-        appended: 0,
-        known: 0,
-        refused: 0,
-        held: 0,
-        missing: 0,
-    };
+    let mut counts = Counts::default();
     for number in 0..numbers {
         match ledger.add(Entry::asserted(link(number % FACTS))) {
-            Ok(Added::Appended) => counts.appended = counts.appended.wrapping_add(1),
-            Ok(Added::Known) => counts.known = counts.known.wrapping_add(1),
-            Err(_) => counts.refused = counts.refused.wrapping_add(1),
+            Ok(Added::Appended) => counts.appended += 1,
+            Ok(Added::Known) => counts.known += 1,
+            Err(_) => counts.refused += 1,
         }
     }
     for number in 0..numbers {
         if ledger.holds(link(number % FACTS)) {
-            counts.held = counts.held.wrapping_add(1);
+            counts.held += 1;
         } else {
-            counts.missing = counts.missing.wrapping_add(1);
+            counts.missing += 1;
         }
     }
     counts
 }
 
-fn report(rt: &HostRuntime, name: &str, counts: Counts) -> io::Result<()> {
-    let Counts {
-        appended,
-        known,
-        refused,
-        held,
-        missing,
-    } = counts;
-    println!(rt;
-        "{name}: {appended} appended, {known} known, {refused} refused, {held} held, {missing} missing"
-    )
-}
-
 /// Whether that ledger was asked for: none named means both.
 fn wanted(rt: &HostRuntime, name: &str) -> io::Result<bool> {
-    let mut named = false;
-    for arg in env::args(rt)?.skip(1) {
-        if arg.as_str() == name {
-            return Ok(true);
-        }
-        named = true;
+    let mut named = env::args(rt)?.skip(1).peekable();
+    Ok(named.peek().is_none() || named.any(|arg| arg.as_str() == name))
+}
+
+/// Runs the ledger where it was asked for, and prints what became of the calls.
+fn run<L: Ledger>(rt: &HostRuntime, name: &str, ledger: &mut L) -> io::Result<()> {
+    if wanted(rt, name)? {
+        println!(rt; "{name}: {}", fill_and_ask(ledger, CALLS))?;
     }
-    Ok(!named)
+    Ok(())
 }
 
 fn main(rt: HostRuntime) -> io::Result<()> {
     let mut rows = [Entry::blank(); ROWS];
-    if wanted(&rt, "list")? {
-        report(
-            &rt,
-            "list",
-            fill_and_ask(&mut ListLedger::new(&mut rows), CALLS),
-        )?;
-    }
-    if wanted(&rt, "bits")? {
-        report(
-            &rt,
-            "bits",
-            fill_and_ask(&mut BitLedger::new(&mut rows), CALLS),
-        )?;
-    }
-    Ok(())
+    run(&rt, "list", &mut ListLedger::new(&mut rows))?;
+    run(&rt, "bits", &mut BitLedger::new(&mut rows))
 }

@@ -1,13 +1,14 @@
 // Calls as data, so that one list of them can be put to every ledger.
 use ledger::{Added, Entry, Fact, Full, Ledger, add_all};
 use names::{Concept, Role, Term};
+use std::alloc::{AllocError, Global};
 
 /// A call of a ledger.
 #[derive(Clone, Copy)]
 pub enum Call {
     Empty,
     Add(Fact),
-    AddAll(Fact, Fact, Fact),
+    AddAll([Fact; 3]),
     Holds(Fact),
     Count,
     Capacity,
@@ -16,18 +17,14 @@ pub enum Call {
 }
 
 /// What a call answers.
-#[derive(Clone, Copy)]
+#[derive(Clone, Copy, PartialEq, Eq, Debug)]
 pub enum Answer {
     Done,
-    Known,
-    Appended,
-    Refused(usize),
-    Joined(usize),
-    Held,
-    Missing,
+    Added(Result<Added, Full>),
+    Joined(Result<usize, Full>),
+    Held(bool),
     Number(usize),
-    Found(Fact),
-    Absent,
+    Found(Option<Entry>),
 }
 
 /// A call with the answer that is due.
@@ -35,78 +32,6 @@ pub enum Answer {
 pub struct Step {
     pub call: Call,
     pub due: Answer,
-}
-
-/// How often each kind of answer came, and a digest of all answers in their order.
-#[derive(Clone, Copy, PartialEq, Eq, Debug)]
-pub struct Tally {
-    pub kinds: [u32; 10],
-    pub digest: u64,
-}
-
-impl Answer {
-    /// The place of its kind in a tally.
-    fn kind(self) -> usize {
-        match self {
-            Answer::Done => 0,
-            Answer::Known => 1,
-            Answer::Appended => 2,
-            Answer::Refused(_) => 3,
-            Answer::Joined(_) => 4,
-            Answer::Held => 5,
-            Answer::Missing => 6,
-            Answer::Number(_) => 7,
-            Answer::Found(_) => 8,
-            Answer::Absent => 9,
-        }
-    }
-
-    /// What it carries, as one number.
-    fn carried(self) -> u64 {
-        match self {
-            Answer::Refused(n) | Answer::Joined(n) | Answer::Number(n) => n as u64,
-            Answer::Found(fact) => spelt(fact),
-            _ => 0,
-        }
-    }
-
-    /// Whether two answers are alike.
-    pub(crate) fn alike(self, other: Answer) -> bool {
-        self.kind() == other.kind() && self.carried() == other.carried()
-    }
-
-    fn of_add(answer: Result<Added, Full>) -> Answer {
-        match answer {
-            Ok(Added::Known) => Answer::Known,
-            Ok(Added::Appended) => Answer::Appended,
-            Err(full) => Answer::Refused(full.capacity),
-        }
-    }
-
-    fn of_add_all(answer: Result<usize, Full>) -> Answer {
-        match answer {
-            Ok(n) => Answer::Joined(n),
-            Err(full) => Answer::Refused(full.capacity),
-        }
-    }
-
-    fn of_entry(answer: Option<Entry>) -> Answer {
-        match answer {
-            Some(e) => Answer::Found(e.fact),
-            None => Answer::Absent,
-        }
-    }
-}
-
-/// The numbers of a fact side by side.
-fn spelt(fact: Fact) -> u64 {
-    match fact {
-        Fact::Is(c, t) => 1_000_000 + c.number as u64 * 100 + t.number as u64,
-        Fact::Link(r, x, y) => 2_000_000
-            + r.number as u64 * 10_000
-            + x.number as u64 * 100
-            + y.number as u64,
-    }
 }
 
 /// Puts a call to the ledger.
@@ -119,19 +44,12 @@ fn ask<L: Ledger>(ledger: &mut L, call: Call) -> Answer
             ledger.empty();
             Answer::Done
         }
-        Call::Add(fact) => Answer::of_add(ledger.add(Entry::asserted(fact))),
-        Call::AddAll(a, b, c) => {
-            let batch = [Entry::asserted(a), Entry::asserted(b), Entry::asserted(c)];
-            Answer::of_add_all(add_all(ledger, &batch))
-        }
-        Call::Holds(fact) => if ledger.holds(fact) {
-            Answer::Held
-        } else {
-            Answer::Missing
-        },
+        Call::Add(fact) => Answer::Added(ledger.add(Entry::asserted(fact))),
+        Call::AddAll(facts) => Answer::Joined(add_all(ledger, &facts.map(Entry::asserted))),
+        Call::Holds(fact) => Answer::Held(ledger.holds(fact)),
         Call::Count => Answer::Number(ledger.count()),
         Call::Capacity => Answer::Number(ledger.capacity()),
-        Call::EntryAt(place) => Answer::of_entry(ledger.entry_at(place)),
+        Call::EntryAt(place) => Answer::Found(ledger.entry_at(place)),
         Call::Cut(k) => {
             ledger.cut(k);
             Answer::Done
@@ -139,15 +57,15 @@ fn ask<L: Ledger>(ledger: &mut L, call: Call) -> Answer
     }
 }
 
-/// Empties the ledger and follows the steps: the place of the first answer that is not the one due.
-pub(crate) fn first_wrong<L: Ledger>(ledger: &mut L, steps: &[Step]) -> Option<usize> {
+/// Empties the ledger and tells whether it answers each step as is due.
+pub(crate) fn follows<L: Ledger>(ledger: &mut L, steps: &[Step]) -> bool {
     ledger.empty();
-    for (i, step) in steps.iter().enumerate() {
-        if !ask(ledger, step.call).alike(step.due) {
-            return Some(i);
-        }
-    }
-    None
+    steps.iter().all(
+        |step: &Step| -> bool
+            requires { L.valid ledger.now }
+            ensures { L.valid ledger.exit.now }
+        { ask(ledger, step.call) == step.due },
+    )
 }
 
 /// The next of a row of numbers that jump about.
@@ -193,7 +111,7 @@ fn call_by(number: u32) -> Call {
         3 | 4 => Call::Cut(place),
         5..=12 => {
             let next = stir(number);
-            Call::AddAll(fact_by(number), fact_by(next), fact_by(stir(next)))
+            Call::AddAll([fact_by(number), fact_by(next), fact_by(stir(next))])
         }
         13..=24 => Call::EntryAt(place),
         25..=40 => Call::Holds(fact_by(number)),
@@ -201,34 +119,19 @@ fn call_by(number: u32) -> Call {
     }
 }
 
-impl Tally {
-    fn note(&mut self, answer: Answer) {
-        let kind = answer.kind();
-        if kind < 10 {
-            self.kinds[kind] = self.kinds[kind].wrapping_add(1);
-        }
-        self.digest = self
-            .digest
-            .wrapping_mul(6_364_136_223_846_793_005)
-            .wrapping_add(kind as u64);
-        self.digest = self
-            .digest
-            .wrapping_mul(1_442_695_040_888_963_407)
-            .wrapping_add(answer.carried());
-    }
-}
-
-/// Empties the ledger, puts that many calls to it and tells what they answered.
-pub(crate) fn drive<L: Ledger>(ledger: &mut L, calls: u32, seed: u32) -> Tally {
+/// Empties the ledger, puts that many calls to it and lists the answers.
+pub(crate) fn drive<L: Ledger>(
+    ledger: &mut L,
+    calls: u32,
+    seed: u32,
+    alloc: Global,
+) -> Result<Vec<Answer>, AllocError> {
     ledger.empty();
-    let mut tally = Tally {
-        kinds: [0; 10],
-        digest: 0,
-    };
+    let mut answers = Vec::new(alloc);
     let mut number = seed;
     for _ in 0..calls {
         number = stir(number);
-        tally.note(ask(ledger, call_by(number)));
+        answers.push(ask(ledger, call_by(number)))?;
     }
-    tally
+    Ok(answers)
 }
