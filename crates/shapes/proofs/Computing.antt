@@ -1,7 +1,7 @@
 -- The tests that compute tell the truth.
 use Rattle.std.proofs.Common.{◌≡◌, ℕ, zero, suc, ◌<◌, ◌≤◌, max, Bool, true, false, cond, ◌⊎◌, Decides, refl, ap, subst, inl, inr, ⊎_elim, add-one, arith}
 use Rattle.std.proofs.lemmas.Bool.{cases_Bool, cases_lt, cond-true, cond-false}
-use Rattle.std.proofs.lemmas.Bool.Decides.{Decides-like, Decides-and, not_from_Decides}
+use Rattle.std.proofs.lemmas.Bool.Decides.{Decides-and, not_from_Decides}
 use Rattle.shapes.specs.declared.shape.Shape.TheVariants.{Forest, Acyclic, Cyclic}
 use Rattle.graph.specs.Digraph.{Digraph, Leads}
 use Rattle.shapes.specs.Views.{undirected, without}
@@ -11,35 +11,29 @@ use Rattle.shapes.specs.Shapes.{Shaped}
 use Rattle.shapes.specs.Computed.{most_below, on_cycle, has_cycle, on_ring, has_ring, shape_of, best_in, height_of, Computes}
 use Rattle.graph.specs.Reached.{reached}
 use Rattle.graph.proofs.Computing.{some_below_decides, reach_computes}
-use Rattle.shapes.proofs.Rings.{cycle_joined, joined_cycle}
-use Rattle.shapes.proofs.Forests.{undirected_differ}
+use Rattle.shapes.proofs.Nodes.{turns_by, cycle_by, rejoined_by, ring_by}
 use Rattle.shapes.proofs.Chains.{Best, best_none, best_more, best_all}
 
 module _ (g : Digraph) where
   turns_computes : (a : ℕ) → a < g.nodes → Decides (on_cycle g a) (Turns g a)
   turns_computes a h =
-      Decides-like {P = (b : ℕ) × (b < g.nodes) × ((g.edge a b ≡ true) × Leads g b a)} (on_cycle g a)
-      (λ (b, i, (e, p)). (b, record { from = h; to = i; runs = e }, p)) (λ (b, s, p). (b, s.to, (s.runs, p)))
+      turns_by g (on_cycle g a) a h
       (some_below_decides _ (λ b. (g.edge a b ≡ true) × Leads g b a) g.nodes (λ b i. Decides-and (g.edge a b) (reached g b a) (λ e. e, λ e. e) (reach_computes g b a i)))
 
   cycle_computes : Decides (has_cycle g) (DirectedCycle g)
   cycle_computes =
-      Decides-like {P = (a : ℕ) × (a < g.nodes) × Turns g a} (has_cycle g) (λ (a, h, t). (a, t)) (λ (a, t). (a, t.1.from, t))
-      (some_below_decides (on_cycle g) (Turns g) g.nodes turns_computes)
+      cycle_by g (has_cycle g) (some_below_decides (on_cycle g) (Turns g) g.nodes turns_computes)
 
 module _ (g : Digraph) (free : DirectedCycle g → ⊥) where
   joined_computes : (a : ℕ) → a < g.nodes → Decides (on_ring g a) (Rejoined g a)
   joined_computes a h =
-      Decides-like {P = (b : ℕ) × (b < g.nodes) × (((undirected g).edge a b ≡ true) × Leads (without (undirected g) a b) a b)} (on_ring g a)
-      (λ (b, i, (e, p)). (b, record { from = h; to = i; runs = e }, p)) (λ (b, s, p). (b, s.to, (s.runs, p)))
+      rejoined_by g (on_ring g a) a h
       (some_below_decides _ (λ b. ((undirected g).edge a b ≡ true) × Leads (without (undirected g) a b) a b) g.nodes
       (λ b i. Decides-and ((undirected g).edge a b) (reached (without (undirected g) a b) a b) (λ e. e, λ e. e) (reach_computes (without (undirected g) a b) a b h)))
 
   ring_computes : Decides (has_ring g) (UndirectedCycle g)
   ring_computes =
-      Decides-like {P = (a : ℕ) × (a < g.nodes) × Rejoined g a} (has_ring g)
-      (λ (a, h, (b, s, p)). joined_cycle g a b (undirected_differ g free a b s) s p) (λ r. let (a, j) = cycle_joined g r in (a, j.1.from, j))
-      (some_below_decides (on_ring g) (Rejoined g) g.nodes joined_computes)
+      ring_by g (has_ring g) free (some_below_decides (on_ring g) (Rejoined g) g.nodes joined_computes)
 
 pub shape_computes : (g : Digraph) → Shaped g (shape_of g)
 shape_computes g = go (has_cycle g) (has_ring g) (cycle_computes g) (ring_computes g)

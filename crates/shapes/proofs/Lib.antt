@@ -3,5 +3,7 @@ pub mod Chains
 pub mod Computing
 pub mod Edges
 pub mod Forests
+pub mod Nodes
+pub mod Picks
 pub mod Rings
 pub mod Tables

@@ -18,6 +18,11 @@ pub record IsHeight (g : Digraph) (marked : ℕ → Bool) (h : ℕ) : Type 0 whe
 abbrev pub OneHeight : Type 0
 OneHeight = (g : Digraph) (marked : ℕ → Bool) (h k : ℕ) → IsHeight g marked h → IsHeight g marked k → h ≡ k
 
+-- r is the largest of the numbers `best` of the nodes to which an edge leads from x, 0 if there is none
+pub record BestAfter (g : Digraph) (best : ℕ → ℕ) (x r : ℕ) : Type 0 where
+  pub above : (y : ℕ) → Step g x y → best y ≤ r
+  pub least : (r ≡ 0) ⊎ ((y : ℕ) × Step g x y × (r ≡ best y))
+
 -- What r is to the numbers `best` of the nodes to which an edge leads from x: one more than the largest of them, and 0 if x is not marked.
 pub record OneMore (g : Digraph) (marked : ℕ → Bool) (best : ℕ → ℕ) (x r : ℕ) : Type 0 where
   pub unmarked : marked x ≡ false → r ≡ 0

@@ -8,6 +8,7 @@ use names::Term;
 /// A graph as a row for each node, with a mark for each node to which an edge leads.
 #[derive(Drop)]
 pub struct Rows {
+    // A row for every term, since edges may be drawn at any: `count` says how many of them are nodes.
     rows: [[bool; MOST]; MOST],
     count: usize,
     ghost few: { count ≤ 48 },

@@ -1,13 +1,15 @@
 ghost use Rattle.std.specs.Prelude.{◌<◌, Decides};
+ghost use Rattle.graph.specs.Digraph.{Leads};
 ghost use Rattle.shapes.specs.Cycles.{Turns, DirectedCycle, UndirectedCycle, Rejoined};
 ghost use Rattle.shapes.specs.Shapes.{Shaped};
+ghost use Rattle.shapes.specs.Views.{without};
 
 use crate::views::{Undirected, Without};
 use graph::graph::Graph;
 use graph::reach::reaches;
 
 /// The shape of a graph.
-#[derive(Clone, Copy)]
+#[derive(Clone, Copy, PartialEq, Eq, Debug)]
 pub enum Shape {
     Forest,
     Acyclic,
@@ -19,24 +21,26 @@ fn turns<G: Graph>(g: &G, a: usize) -> bool
     requires { a < (G.digraph g.now).nodes }
     ensures { Decides result (Turns (G.digraph g.now) a) }
 {
-    for b in 0..g.nodes() {
-        if g.edge(a, b) && reaches(g, b, a) {
-            return true;
-        }
-    }
-    false
+    (0..g.nodes()).any(|b| g.edge(a, b) && reaches(g, b, a))
 }
 
 /// Whether there is a directed cycle.
 fn cyclic<G: Graph>(g: &G) -> bool
     ensures { Decides result (DirectedCycle (G.digraph g.now)) }
 {
-    for a in 0..g.nodes() {
-        if turns(g, a) {
-            return true;
-        }
-    }
-    false
+    (0..g.nodes()).any(|a| turns(g, a))
+}
+
+/// Whether a path leads from `a` to `b` without the edges between the two.
+fn rejoins<G: Graph>(g: &G, a: usize, b: usize) -> bool
+    ensures { Decides result (Leads (without (G.digraph g.now) a b) a b) }
+{
+    let rest = Without {
+        graph: g,
+        one: a,
+        other: b,
+    };
+    reaches(&rest, a, b)
 }
 
 /// Whether from the node an edge, either way, leads to one from which it is reached without that edge.
@@ -45,19 +49,7 @@ fn rejoined<G: Graph>(g: &G, a: usize) -> bool
     ensures { Decides result (Rejoined (G.digraph g.now) a) }
 {
     let both = Undirected { graph: g };
-    for b in 0..g.nodes() {
-        if both.edge(a, b) {
-            let rest = Without {
-                graph: &both,
-                one: a,
-                other: b,
-            };
-            if reaches(&rest, a, b) {
-                return true;
-            }
-        }
-    }
-    false
+    (0..g.nodes()).any(|b| both.edge(a, b) && rejoins(&both, a, b))
 }
 
 /// Whether a graph with no directed cycle has an undirected one.
@@ -65,12 +57,7 @@ fn ringed<G: Graph>(g: &G) -> bool
     requires { DirectedCycle (G.digraph g.now) → ⊥ }
     ensures { Decides result (UndirectedCycle (G.digraph g.now)) }
 {
-    for a in 0..g.nodes() {
-        if rejoined(g, a) {
-            return true;
-        }
-    }
-    false
+    (0..g.nodes()).any(|a| rejoined(g, a))
 }
 
 /// The shape of a graph: cyclic with a directed cycle, else acyclic with an undirected one, else a forest.

@@ -6,7 +6,7 @@ use crate::shape::{Shape, classify};
 use graph::graph::{Graph, MOST};
 
 /// The shape of a graph, and the most marked nodes on one path of them, 0 if the graph is cyclic.
-#[derive(Clone, Copy)]
+#[derive(Clone, Copy, PartialEq, Eq, Debug)]
 pub struct Survey {
     pub shape: Shape,
     pub height: u8,
@@ -19,8 +19,7 @@ pub fn look<G: Graph>(g: &G, marked: &[bool; MOST]) -> Survey
     let shape = classify(g);
     let height = match shape {
         Shape::Cyclic => 0,
-        Shape::Acyclic => height(g, marked),
-        Shape::Forest => height(g, marked),
+        Shape::Acyclic | Shape::Forest => height(g, marked),
     };
     Survey { shape, height }
 }

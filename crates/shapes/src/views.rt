@@ -36,7 +36,8 @@ impl<'a, G: Graph> Graph for Without<'a, G> {
     }
 
     fn edge(&self, from: usize, to: usize) -> bool {
-        let both = (from == self.one && to == self.other) || (from == self.other && to == self.one);
+        let ends = (self.one, self.other);
+        let both = (from, to) == ends || (to, from) == ends;
         !both && self.graph.edge(from, to)
     }
 }
