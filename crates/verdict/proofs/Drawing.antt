@@ -17,7 +17,7 @@ use Rattle.shapes.specs.Views.{tabled}
 use Rattle.verdict.specs.Links.{links}
 
 -- E of two terms is drawn as an edge between them
-pub link_drawn : (b after : Bool) (f : Fact) (r : Role) (x y : Term) (i j : ℕ) → f ≡ Link r x y → r.number ≡ 9 → after ≡ (b || (eqb i x.number && eqb j y.number)) → after ≡ (b || links i j f)
+pub link_drawn : (b after : Bool) (f : Fact Term) (r : Role) (x y : Term) (i j : ℕ) → f ≡ Link r x y → r.number ≡ 9 → after ≡ (b || (eqb i x.number && eqb j y.number)) → after ≡ (b || links i j f)
 link_drawn b after f r x y i j e n h =
     h ∙ ap (λ t. b || (t && (eqb i x.number && eqb j y.number))) (sym (eq-eqb 9 r.number (sym n))) ∙ ap (λ g. b || links i j g) (sym e)
 
