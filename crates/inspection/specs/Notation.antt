@@ -1,24 +1,15 @@
 -- The text of a table, byte by byte.
-use Rattle.std.specs.Prelude.{ℕ, Bool, cond, List, [], ◌∷◌, ◌++◌, length, Some, None, codes, decimal, Option, ◌==◌}
+use Rattle.std.specs.Prelude.{ℕ, Bool, cond, List, [], ◌∷◌, ◌++◌, length, Some, None, codes, decimal, Option}
 use Rattle.std.specs.List.{slice_get}
 use Rattle.theory.specs.Lists.{count_of, up_from, each}
 use Rattle.theory.specs.Roles.{is_simple, is_unsafe}
 use Rattle.theory.specs.Table.{Axiom, Table, sub_role, sub_inverse, transitive, conjunction, nominal, filler, at_most_one, exists, range, has_value, open_concept, open_role, has_form}
-use Rattle.layout.specs.declared.refusal.Refusal.{Refusal}
 use Rattle.layout.specs.Checking.{Outcome, accepted, refused, checked}
-use Rattle.layout.specs.Refusals.{number_of, place_of}
+use Rattle.layout.specs.Refusals.{refusal_text}
+use Rattle.names.specs.Naming.{concept_text, role_text, individual_text}
 
 abbrev pub newline : List ℕ
 newline = 10 ∷ []
-
-abbrev pub concept_text : ℕ → List ℕ
-concept_text c = cond (c == 0) (codes "Top") (cond (c == 1) (codes "Bottom") (codes "C" ++ decimal c))
-
-abbrev pub role_text : ℕ → List ℕ
-role_text r = codes "R" ++ decimal r
-
-abbrev pub individual_text : ℕ → List ℕ
-individual_text i = codes "I" ++ decimal i
 
 abbrev pub axiom_text : Axiom → List ℕ
 axiom_text (sub_role p q) = role_text p ++ (codes " <= " ++ role_text q)
@@ -72,12 +63,9 @@ counts_text t =
 abbrev pub table_text : Table → List ℕ
 table_text t = sizes_text t ++ (lines_text t ++ counts_text t)
 
-abbrev pub refusal_text : Refusal → List ℕ
-refusal_text f = codes "refused " ++ (decimal (number_of f) ++ (codes " at " ++ (decimal (place_of f) ++ newline)))
-
 abbrev pub outcome_text : Outcome → List ℕ
 outcome_text (accepted t) = table_text t
-outcome_text (refused f) = refusal_text f
+outcome_text (refused f) = refusal_text f ++ newline
 
 -- what inspecting bytes shows
 abbrev pub inspected : List ℕ → List ℕ

@@ -2,7 +2,6 @@ ghost use Rattle.std.specs.Prelude.{Some};
 ghost use Rattle.layout.specs.Meaning.{axiom_in};
 ghost use Rattle.inspection.specs.Notation.{axiom_text};
 
-use crate::naming::{ConceptName as C, IndividualName as I, RoleName as R};
 use layout::axiom::Axiom;
 use std::fmt::{Display, Formatter, Result, Write};
 
@@ -15,20 +14,18 @@ impl Display for Shown {
 
     fn fmt<W: Write>(&self, f: &mut Formatter<W>) -> Result {
         match self.0 {
-            Axiom::SubRole(p, q) => write!(f, "{} <= {}", R(p), R(q)),
-            Axiom::SubInverse(p, q) => write!(f, "{} <= inverse {}", R(p), R(q)),
-            Axiom::Transitive(p) => write!(f, "{} transitive", R(p)),
-            Axiom::Conjunction(p, q, r, s) => {
-                write!(f, "{} & {} & {} <= {}", C(p), C(q), C(r), C(s))
-            }
-            Axiom::Nominal(p, q) => write!(f, "{} <= {{{}}}", C(p), I(q)),
-            Axiom::Filler(p, q, r) => write!(f, "some {} {} <= {}", R(p), C(q), C(r)),
-            Axiom::AtMostOne(p, q, r) => write!(f, "{} <= at most 1 {} {}", C(p), R(q), C(r)),
-            Axiom::Exists(p, q, r) => write!(f, "{} <= some {} {}", C(p), R(q), C(r)),
-            Axiom::Range(p, q) => write!(f, "range {} <= {}", R(p), C(q)),
-            Axiom::HasValue(p, q, r) => write!(f, "{} <= some {} {{{}}}", C(p), R(q), I(r)),
-            Axiom::OpenConcept(p) => write!(f, "{} open", C(p)),
-            Axiom::OpenRole(p) => write!(f, "{} open", R(p)),
+            Axiom::SubRole(p, q) => write!(f, "{p} <= {q}"),
+            Axiom::SubInverse(p, q) => write!(f, "{p} <= inverse {q}"),
+            Axiom::Transitive(p) => write!(f, "{p} transitive"),
+            Axiom::Conjunction(p, q, r, s) => write!(f, "{p} & {q} & {r} <= {s}"),
+            Axiom::Nominal(p, q) => write!(f, "{p} <= {{{q}}}"),
+            Axiom::Filler(p, q, r) => write!(f, "some {p} {q} <= {r}"),
+            Axiom::AtMostOne(p, q, r) => write!(f, "{p} <= at most 1 {q} {r}"),
+            Axiom::Exists(p, q, r) => write!(f, "{p} <= some {q} {r}"),
+            Axiom::Range(p, q) => write!(f, "range {p} <= {q}"),
+            Axiom::HasValue(p, q, r) => write!(f, "{p} <= some {q} {{{r}}}"),
+            Axiom::OpenConcept(p) => write!(f, "{p} open"),
+            Axiom::OpenRole(p) => write!(f, "{p} open"),
         }
     }
 }

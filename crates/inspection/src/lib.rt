@@ -3,5 +3,4 @@
 
 mod axioms;
 mod lines;
-mod naming;
 pub mod report;

@@ -1,6 +1,8 @@
 ghost use Rattle.std.specs.Prelude.{◌≡◌, Some};
+ghost use Rattle.theory.specs.Roles.{is_unsafe};
+ghost use Rattle.layout.specs.Meaning.{axiom_in};
 ghost use Rattle.table.specs.Answers.{meaning};
-ghost use Rattle.inspection.specs.Notation.{unsafe_text, line_text, lines_text, sizes_text, counts_text, table_text};
+ghost use Rattle.inspection.specs.Notation.{unsafe_text, axiom_line, lines_text, sizes_text, counts_text, table_text};
 
 use crate::axioms::Shown;
 use layout::sizes::Sizes;
@@ -11,11 +13,12 @@ use table::checked::Checked;
 #[derive(Drop)]
 struct SizesLine<'a>(&'a Checked);
 
-/// The line of axiom k, if there is one.
+/// The line of axiom k.
 #[derive(Drop)]
 struct AxiomLine<'a> {
     table: &'a Checked,
     k: usize,
+    shown: Shown,
 }
 
 /// The lines of all axioms.
@@ -55,15 +58,12 @@ fn mark(is_unsafe: bool) -> &'static str
 }
 
 impl<'a> Display for AxiomLine<'a> {
-    ghost output = { λ l. Some (line_text (meaning l.table.now) l.k) };
+    ghost output = { λ l. Some (axiom_line l.k (is_unsafe (meaning l.table.now) l.k) (axiom_in l.shown.0)) };
 
     fn fmt<W: Write>(&self, f: &mut Formatter<W>) -> Result {
         let k = self.k;
         let mark = mark(self.table.is_unsafe(k));
-        match self.table.axiom(k) {
-            Some(axiom) => writeln!(f, "axiom {k}: {}{mark}", Shown(axiom)),
-            None => Ok(()),
-        }
+        writeln!(f, "axiom {k}: {}{mark}", self.shown)
     }
 }
 
@@ -72,9 +72,9 @@ impl<'a> Display for AxiomLines<'a> {
 
     fn fmt<W: Write>(&self, f: &mut Formatter<W>) -> Result {
         let table = self.0;
-        let count = table.sizes().axioms as usize;
-        for k in 0..count {
-            f.write(AxiomLine { table, k })?;
+        for (k, axiom) in table.axioms().iter().enumerate() {
+            let shown = Shown(*axiom);
+            f.write(AxiomLine { table, k, shown })?;
         }
         Ok(())
     }

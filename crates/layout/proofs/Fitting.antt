@@ -4,8 +4,7 @@ use Rattle.std.proofs.lemmas.Bool.{both_ways, and_parts, and_from}
 use Rattle.std.proofs.lemmas.Bool.Decides.{nat_tests}
 use Rattle.theory.specs.Table.{Axiom, Table, Line, line, sub_role, sub_inverse, transitive, conjunction, nominal, filler, at_most_one, exists, range, has_value, open_concept, open_role, line_of, axiom_of}
 use Rattle.theory.specs.WellFormed.{declares}
-use Rattle.layout.specs.declared.line.Kinds.{Kinds}
-use Rattle.layout.specs.Forms.{kinds_of, has_kinds, fits_by, fits_line}
+use Rattle.layout.specs.Forms.{Kinds, kinds_of, has_kinds, fits_by, fits_line}
 
 -- the axiom that a line says
 abbrev pub Says : Table → Line → Type 0

@@ -1,3 +1,4 @@
 pub mod Fitting
 pub mod Passing
 pub mod Writing
+pub mod Taking

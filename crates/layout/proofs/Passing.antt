@@ -1,5 +1,5 @@
 -- What is accepted is well-formed.
-use Rattle.std.proofs.Common.{◌≡◌, ℕ, zero, suc, ◌+◌, ◌*◌, ◌<◌, ◌≤◌, Bool, true, false, not, eqb, leb, List, [], ◌∷◌, ◌++◌, map, length, take, Some, None, Option, sym, refl, ap, ◌∙◌, subst, ⊎_elim, zero-add, arith}
+use Rattle.std.proofs.Common.{◌≡◌, ℕ, ◌+◌, ◌*◌, ◌<◌, ◌≤◌, Bool, true, false, not, eqb, leb, List, [], ◌∷◌, ◌++◌, map, length, take, Some, None, Option, sym, refl, ap, ◌∙◌, subst, ⊎_elim, zero-add, arith}
 use mathlib.Core.List.Memᴰ
 use Rattle.std.specs.List.{slice_get}
 use Rattle.std.proofs.lemmas.List.{length-map}
@@ -15,6 +15,9 @@ use Rattle.theory.proofs.Forms.{same_axiom}
 use Rattle.theory.proofs.Accepting.{same_line_decides, counts_simple_reads}
 use Rattle.layout.specs.declared.refusal.Refusal.{Refusal}
 use Rattle.layout.specs.declared.refusal.Refusal.TheVariants.{TooShort, SizeOutOfLimits, WrongLength, UnknownForm, BadArgument, Repeated, TooManyWitnesses, NotSimple}
+use Rattle.layout.specs.declared.sizes.Size.{Size}
+use Rattle.layout.specs.declared.sizes.Size.TheVariants.{Concepts, Roles, Individuals, Axioms}
+use Rattle.layout.specs.Refusals.{word_of}
 use Rattle.layout.specs.Words.{word_at, axioms_in, line_at, lines_to, said, says}
 use Rattle.layout.specs.Checking.{size_fits, passes, applies, line_tests, header_tests, order, first, accepted, outcome, checked}
 use Rattle.layout.proofs.Fitting.{Says, line_says}
@@ -38,7 +41,7 @@ none_first p (g ∷ l) h = cond-false (p g) _ _ (h g (Memᴰ.head refl)) ∙ non
 -- what is looked for at so many axioms
 abbrev pub Due : ℕ → Refusal → Type 0
 Due n TooShort = Unit {0}
-Due n (SizeOutOfLimits w) = w < 4
+Due n (SizeOutOfLimits z) = Unit {0}
 Due n WrongLength = Unit {0}
 Due n (UnknownForm k) = k < n
 Due n (BadArgument k) = k < n
@@ -58,11 +61,10 @@ module _ (n : ℕ) where
 
   pub in_order : (f : Refusal) → Due n f → f ∈ order n
   in_order TooShort h = Memᴰ.head refl
-  in_order (SizeOutOfLimits zero) h = Memᴰ.tail (Memᴰ.head refl)
-  in_order (SizeOutOfLimits (suc zero)) h = Memᴰ.tail (Memᴰ.tail (Memᴰ.head refl))
-  in_order (SizeOutOfLimits (suc (suc zero))) h = Memᴰ.tail (Memᴰ.tail (Memᴰ.tail (Memᴰ.head refl)))
-  in_order (SizeOutOfLimits (suc (suc (suc zero)))) h = Memᴰ.tail (Memᴰ.tail (Memᴰ.tail (Memᴰ.tail (Memᴰ.head refl))))
-  in_order (SizeOutOfLimits (suc (suc (suc (suc w))))) h = absurd (omega arith)
+  in_order (SizeOutOfLimits Concepts) h = Memᴰ.tail (Memᴰ.head refl)
+  in_order (SizeOutOfLimits Roles) h = Memᴰ.tail (Memᴰ.tail (Memᴰ.head refl))
+  in_order (SizeOutOfLimits Individuals) h = Memᴰ.tail (Memᴰ.tail (Memᴰ.tail (Memᴰ.head refl)))
+  in_order (SizeOutOfLimits Axioms) h = Memᴰ.tail (Memᴰ.tail (Memᴰ.tail (Memᴰ.tail (Memᴰ.head refl))))
   in_order WrongLength h = Memᴰ.tail (Memᴰ.tail (Memᴰ.tail (Memᴰ.tail (Memᴰ.tail (Memᴰ.head refl)))))
   in_order (UnknownForm k) h = in_line k (UnknownForm k) h (Memᴰ.head refl)
   in_order (BadArgument k) h = in_line k (BadArgument k) h (Memᴰ.tail (Memᴰ.head refl))
@@ -83,10 +85,10 @@ module _ (n : ℕ) where
     where
       header : f ∈ header_tests → Due n f
       header (Memᴰ.head e) = due_by f TooShort e tt
-      header (Memᴰ.tail (Memᴰ.head e)) = due_by f (SizeOutOfLimits 0) e (omega arith)
-      header (Memᴰ.tail (Memᴰ.tail (Memᴰ.head e))) = due_by f (SizeOutOfLimits 1) e (omega arith)
-      header (Memᴰ.tail (Memᴰ.tail (Memᴰ.tail (Memᴰ.head e)))) = due_by f (SizeOutOfLimits 2) e (omega arith)
-      header (Memᴰ.tail (Memᴰ.tail (Memᴰ.tail (Memᴰ.tail (Memᴰ.head e))))) = due_by f (SizeOutOfLimits 3) e (omega arith)
+      header (Memᴰ.tail (Memᴰ.head e)) = due_by f (SizeOutOfLimits Concepts) e tt
+      header (Memᴰ.tail (Memᴰ.tail (Memᴰ.head e))) = due_by f (SizeOutOfLimits Roles) e tt
+      header (Memᴰ.tail (Memᴰ.tail (Memᴰ.tail (Memᴰ.head e)))) = due_by f (SizeOutOfLimits Individuals) e tt
+      header (Memᴰ.tail (Memᴰ.tail (Memᴰ.tail (Memᴰ.tail (Memᴰ.head e))))) = due_by f (SizeOutOfLimits Axioms) e tt
       header (Memᴰ.tail (Memᴰ.tail (Memᴰ.tail (Memᴰ.tail (Memᴰ.tail (Memᴰ.head e)))))) = due_by f WrongLength e tt
       header (Memᴰ.tail (Memᴰ.tail (Memᴰ.tail (Memᴰ.tail (Memᴰ.tail (Memᴰ.tail m)))))) = elim m [ ]
 
@@ -190,18 +192,18 @@ module _ (bs : List ℕ) (none : first (applies bs) (order (axioms_in bs)) ≡ N
       let passed = sym (ap (passes (λ a. not (counts_simple (says bs) a))) at) ∙ due (NotSimple k) low in
       counts_simple_reads (says bs) said_declared (at_most_one p q r) m (not-false (counts_simple (says bs) (at_most_one p q r)) passed) p q r refl
 
-  size : (w : ℕ) → w < 4 → size_fits w (word_at bs w) ≡ true
-  size w h = not-false _ (due (SizeOutOfLimits w) h)
+  size : (z : Size) → size_fits (word_of z) (word_at bs (word_of z)) ≡ true
+  size z = not-false _ (due (SizeOutOfLimits z) tt)
 
   pub said_length : length bs ≡ 8 + 10 * axioms_in bs
   said_length = let h = not-false (eqb (length bs) (8 + 10 * axioms_in bs)) (due WrongLength tt) in grind (arith, nat_tests)
 
   pub said_well_formed : WellFormed (says bs)
   said_well_formed =
-      let (c, d) = and_parts (leb 2 (word_at bs 0)) _ (size 0 (omega arith)) in
-      let (_, r) = and_parts (leb 0 (word_at bs 1)) _ (size 1 (omega arith)) in
-      let (i, j) = and_parts (leb 1 (word_at bs 2)) _ (size 2 (omega arith)) in
-      let (_, m) = and_parts (leb 0 (axioms_in bs)) _ (size 3 (omega arith)) in
+      let (c, d) = and_parts (leb 2 (word_at bs 0)) _ (size Concepts) in
+      let (_, r) = and_parts (leb 0 (word_at bs 1)) _ (size Roles) in
+      let (i, j) = and_parts (leb 1 (word_at bs 2)) _ (size Individuals) in
+      let (_, m) = and_parts (leb 0 (axioms_in bs)) _ (size Axioms) in
       record {
         concepts = (leb-true 2 (word_at bs 0) c, leb-true (word_at bs 0) 32 d);
         roles = leb-true (word_at bs 1) 7 r;

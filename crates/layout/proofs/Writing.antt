@@ -14,6 +14,9 @@ use Rattle.theory.proofs.Accepting.{same_words, same_line_decides, simple_counts
 use Rattle.layout.specs.declared.refusal.Refusal.{Refusal}
 use Rattle.layout.specs.declared.refusal.Refusal.TheVariants.{TooShort, SizeOutOfLimits, WrongLength, UnknownForm, BadArgument, Repeated, TooManyWitnesses, NotSimple}
 use Rattle.layout.specs.Forms.{fits_line}
+use Rattle.layout.specs.declared.sizes.Size.{Size}
+use Rattle.layout.specs.declared.sizes.Size.TheVariants.{Concepts, Roles, Individuals, Axioms}
+use Rattle.layout.specs.Refusals.{word_of}
 use Rattle.layout.specs.Words.{Bytes, word, word_at, axioms_in, record_at, line_at, lines_to, said, says}
 use Rattle.layout.specs.Checking.{size_fits, passes, applies, order, first, accepted, outcome, checked}
 use Rattle.layout.specs.Encoding.{bytes_of, record_of, words_of, encode, ReadingInvertsWriting}
@@ -149,8 +152,8 @@ module _ (t : Table) where
         let (a, e) = axiom_at k h in
         ap (λ u. fits_line u (line_at bytes k)) says_written ∙ ap (fits_line t) (line_written k a e) ∙ declared_fits t a (w.declared a (nth_in t.axioms k a e))
 
-    size_written : (k : ℕ) (x : ℕ) → get_or (words_of t) k 0 ≡ x → size_fits k x ≡ true → applies bytes (SizeOutOfLimits k) ≡ false
-    size_written k x e h = ap (λ x. not (size_fits k x)) (word_written (words_of t) k ∙ e) ∙ not_from_true _ h
+    size_written : (z : Size) (x : ℕ) → get_or (words_of t) (word_of z) 0 ≡ x → size_fits (word_of z) x ≡ true → applies bytes (SizeOutOfLimits z) ≡ false
+    size_written z x e h = ap (λ x. not (size_fits (word_of z) x)) (word_written (words_of t) (word_of z) ∙ e) ∙ not_from_true _ h
 
     fresh_written : (k : ℕ) → k < axioms_in bytes → any_of (same_line (line_at bytes k)) (lines_to bytes k) ≡ true → ⊥
     fresh_written k h e =
@@ -177,13 +180,12 @@ module _ (t : Table) where
 
     none_due : (f : Refusal) → Due (axioms_in bytes) f → applies bytes f ≡ false
     none_due TooShort h = le-ltb (length bytes) 8 (omega (arith, length-encode t))
-    none_due (SizeOutOfLimits zero) h = size_written 0 t.concepts refl (and_from _ _ (le-leb 2 t.concepts w.concepts.0) (le-leb t.concepts 32 w.concepts.1))
-    none_due (SizeOutOfLimits (suc zero)) h = size_written 1 t.roles refl (and_from _ _ (le-leb 0 t.roles (omega arith)) (le-leb t.roles 7 w.roles))
-    none_due (SizeOutOfLimits (suc (suc zero))) h =
-        size_written 2 t.individuals refl (and_from _ _ (le-leb 1 t.individuals w.individuals.0) (le-leb t.individuals 16 w.individuals.1))
-    none_due (SizeOutOfLimits (suc (suc (suc zero)))) h =
-        size_written 3 (length t.axioms) refl (and_from _ _ (le-leb 0 (length t.axioms) (omega arith)) (le-leb (length t.axioms) 64 w.few))
-    none_due (SizeOutOfLimits (suc (suc (suc (suc k))))) h = absurd (omega arith)
+    none_due (SizeOutOfLimits Concepts) h = size_written Concepts t.concepts refl (and_from _ _ (le-leb 2 t.concepts w.concepts.0) (le-leb t.concepts 32 w.concepts.1))
+    none_due (SizeOutOfLimits Roles) h = size_written Roles t.roles refl (and_from _ _ (le-leb 0 t.roles (omega arith)) (le-leb t.roles 7 w.roles))
+    none_due (SizeOutOfLimits Individuals) h =
+        size_written Individuals t.individuals refl (and_from _ _ (le-leb 1 t.individuals w.individuals.0) (le-leb t.individuals 16 w.individuals.1))
+    none_due (SizeOutOfLimits Axioms) h =
+        size_written Axioms (length t.axioms) refl (and_from _ _ (le-leb 0 (length t.axioms) (omega arith)) (le-leb (length t.axioms) 64 w.few))
     none_due WrongLength h = not_from_true _ (eq-eqb (length bytes) (8 + 10 * axioms_in bytes) (omega (arith, length-encode t, count_written)))
     none_due (UnknownForm k) h = not_from_true _ (fits_has_kinds (says bytes) (line_at bytes k) (fits_written k h))
     none_due (BadArgument k) h = not_from_true _ (fits_written k h)

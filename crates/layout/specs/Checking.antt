@@ -6,6 +6,8 @@ use Rattle.theory.specs.Table.{Axiom, Table, same_line, has_form}
 use Rattle.theory.specs.WellFormed.{counts_simple}
 use Rattle.layout.specs.declared.refusal.Refusal.{Refusal}
 use Rattle.layout.specs.declared.refusal.Refusal.TheVariants.{TooShort, SizeOutOfLimits, WrongLength, UnknownForm, BadArgument, Repeated, TooManyWitnesses, NotSimple}
+use Rattle.layout.specs.declared.sizes.Size.TheVariants.{Concepts, Roles, Individuals, Axioms}
+use Rattle.layout.specs.Refusals.{word_of}
 use Rattle.layout.specs.Forms.{kinds_of, has_kinds, fits_line}
 use Rattle.layout.specs.Words.{word_at, axioms_in, line_at, lines_to, says}
 
@@ -27,7 +29,7 @@ passes p (Some a) = p a
 -- whether a refusal applies, whatever came before it
 abbrev pub applies : List ℕ → Refusal → Bool
 applies bs TooShort = nat_lt (length bs) 8
-applies bs (SizeOutOfLimits w) = not (size_fits w (word_at bs w))
+applies bs (SizeOutOfLimits z) = not (size_fits (word_of z) (word_at bs (word_of z)))
 applies bs WrongLength = not (length bs == 8 + 10 * axioms_in bs)
 applies bs (UnknownForm k) = not (has_kinds (kinds_of (line_at bs k).form))
 applies bs (BadArgument k) = not (fits_line (says bs) (line_at bs k))
@@ -40,7 +42,7 @@ abbrev pub line_tests : ℕ → List Refusal
 line_tests k = UnknownForm k ∷ BadArgument k ∷ Repeated k ∷ []
 
 abbrev pub header_tests : List Refusal
-header_tests = TooShort ∷ SizeOutOfLimits 0 ∷ SizeOutOfLimits 1 ∷ SizeOutOfLimits 2 ∷ SizeOutOfLimits 3 ∷ WrongLength ∷ []
+header_tests = TooShort ∷ SizeOutOfLimits Concepts ∷ SizeOutOfLimits Roles ∷ SizeOutOfLimits Individuals ∷ SizeOutOfLimits Axioms ∷ WrongLength ∷ []
 
 -- the checking order at so many axioms
 abbrev pub order : ℕ → List Refusal

@@ -5,7 +5,7 @@ ghost use Rattle.layout.specs.Meaning.{axiom_in};
 use names::{Concept, Individual, Role};
 
 /// An axiom, by its form.
-#[derive(Clone, Copy)]
+#[derive(Clone, Copy, PartialEq, Eq, Debug)]
 pub enum Axiom {
     /// 1: role p ⊑ q
     SubRole(Role, Role),
@@ -38,9 +38,6 @@ impl Axiom {
     pub fn asks_witness(self) -> bool
         ensures { result ≡ has_form 8 (axiom_in self) }
     {
-        match self {
-            Axiom::Exists(_, _, _) => true,
-            _ => false,
-        }
+        matches!(self, Axiom::Exists(_, _, _))
     }
 }

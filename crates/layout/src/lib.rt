@@ -2,6 +2,7 @@
 #![tactic(auto)]
 
 pub mod axiom;
+pub mod form;
 pub mod limits;
 pub mod line;
 pub mod reading;

@@ -1,7 +1,7 @@
 ghost use Rattle.layout.specs.Limits.{SizesTaken};
 
 use crate::refusal::Refusal;
-use crate::sizes::Sizes;
+use crate::sizes::{Size, Sizes};
 
 impl Sizes {
     /// Sizes within their limits, or the first that is not.
@@ -9,16 +9,16 @@ impl Sizes {
         ensures { SizesTaken concepts roles individuals axioms result }
     {
         if concepts < 2 || concepts > 32 {
-            return Err(Refusal::SizeOutOfLimits(0));
+            return Err(Refusal::SizeOutOfLimits(Size::Concepts));
         }
         if roles > 7 {
-            return Err(Refusal::SizeOutOfLimits(1));
+            return Err(Refusal::SizeOutOfLimits(Size::Roles));
         }
         if individuals < 1 || individuals > 16 {
-            return Err(Refusal::SizeOutOfLimits(2));
+            return Err(Refusal::SizeOutOfLimits(Size::Individuals));
         }
         if axioms > 64 {
-            return Err(Refusal::SizeOutOfLimits(3));
+            return Err(Refusal::SizeOutOfLimits(Size::Axioms));
         }
         Ok(Sizes {
             concepts,

@@ -1,13 +1,16 @@
-ghost use Rattle.std.specs.Prelude.{◌≡◌};
-ghost use Rattle.layout.specs.Refusals.{number_of, place_of};
+ghost use Rattle.std.specs.Prelude.{◌≡◌, Some};
+ghost use Rattle.layout.specs.Refusals.{number_of, place_of, refusal_text};
 
-/// Why a table is refused, with the word of a size or the number of an axiom, each from 0.
-#[derive(Clone, Copy)]
+use crate::sizes::Size;
+use std::fmt::{Display, Formatter, Result, Write};
+
+/// Why a table is refused, with a size or the number of an axiom, from 0.
+#[derive(Clone, Copy, PartialEq, Eq, Debug)]
 pub enum Refusal {
     /// It is shorter than its four sizes.
     TooShort,
     /// A size is outside its limits.
-    SizeOutOfLimits(u8),
+    SizeOutOfLimits(Size),
     /// It is not as long as its sizes say.
     WrongLength,
     /// A form code is not 1 to 12.
@@ -45,7 +48,7 @@ impl Refusal {
     {
         match self {
             Refusal::TooShort => 0,
-            Refusal::SizeOutOfLimits(word) => *word,
+            Refusal::SizeOutOfLimits(size) => *size as u8,
             Refusal::WrongLength => 0,
             Refusal::UnknownForm(axiom) => *axiom,
             Refusal::BadArgument(axiom) => *axiom,
@@ -53,5 +56,15 @@ impl Refusal {
             Refusal::TooManyWitnesses(axiom) => *axiom,
             Refusal::NotSimple(axiom) => *axiom,
         }
+    }
+}
+
+impl Display for Refusal {
+    ghost output = { λ f. Some (refusal_text f) };
+
+    fn fmt<W: Write>(&self, f: &mut Formatter<W>) -> Result {
+        let number = self.number();
+        let place = self.place();
+        write!(f, "refused {number} at {place}")
     }
 }

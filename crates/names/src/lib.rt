@@ -4,6 +4,8 @@
 ghost use Rattle.std.specs.Prelude.{◌≡◌, ◌<◌, ◌≤◌, Some};
 ghost use Rattle.names.specs.Naming.{concept_text, role_text, individual_text};
 
+pub mod words;
+
 use std::fmt::{Display, Formatter, Result, Write};
 
 /// The number of a concept, 0 to 32: 0 is ⊤, 1 is ⊥, and 32 is U, which no table declares.

@@ -11,9 +11,8 @@ use Rattle.theory.specs.WellFormed.{declares}
 use Rattle.layout.specs.declared.axiom.Axiom.{Axiom}
 use Rattle.layout.specs.declared.refusal.Refusal.{Refusal}
 use Rattle.layout.specs.declared.refusal.Refusal.TheVariants.{TooShort, SizeOutOfLimits, WrongLength, UnknownForm, BadArgument, Repeated, TooManyWitnesses, NotSimple}
-use Rattle.layout.specs.declared.line.Kind.{Kind}
-use Rattle.layout.specs.declared.line.Kind.TheVariants.{Concept, Role, Individual, Unused}
-use Rattle.layout.specs.declared.line.Kinds.{Kinds}
+use Rattle.layout.specs.Forms.{Kind, Concept, Role, Individual, Unused, Kinds}
+use Rattle.layout.specs.declared.sizes.Size.TheVariants.{Concepts, Roles, Individuals, Axioms}
 use Rattle.layout.specs.declared.sizes.Sizes.{Sizes}
 use Rattle.layout.specs.Checking.{applies, line_tests, header_tests, first, outcome, checked, accepted, refused}
 use Rattle.layout.specs.Forms.{kinds_of, has_kinds, limit, fits_by, fits_line}
@@ -29,7 +28,7 @@ use Rattle.table.specs.Stages.{Header, sizes_of, lines_no, refusal_no, says_no, 
 use Rattle.table.proofs.Checking.{passed, found, each_none, each_some, place_none, place_some, line_at_reads, lines_at}
 
 abbrev size_tests : List Refusal
-size_tests = SizeOutOfLimits 0 ∷ SizeOutOfLimits 1 ∷ SizeOutOfLimits 2 ∷ SizeOutOfLimits 3 ∷ []
+size_tests = SizeOutOfLimits Concepts ∷ SizeOutOfLimits Roles ∷ SizeOutOfLimits Individuals ∷ SizeOutOfLimits Axioms ∷ []
 
 -- limits go by the sizes alone
 same_limit : (t u : Table) → t.concepts ≡ u.concepts → t.roles ≡ u.roles → t.individuals ≡ u.individuals → (k : Kind) → limit t k ≡ limit u k

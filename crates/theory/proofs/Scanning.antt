@@ -1,8 +1,10 @@
 -- A loop that looks for an element that passes.
-use Rattle.std.proofs.Common.{◌≡◌, ℕ, ◌+◌, ◌<◌, ◌≤◌, Bool, true, false, ◌||◌, List, map, length, get_or, drop, sym, ap, ◌∙◌}
+use Rattle.std.proofs.Common.{◌≡◌, ℕ, suc, arith, ◌+◌, ◌<◌, ◌≤◌, Bool, true, false, cond, ◌||◌, List, [], ◌∷◌, refl, map, length, get_or, drop, sym, ap, ◌∙◌}
 use Rattle.std.proofs.lemmas.List.{at_drop_more, at_drop_all}
 use Rattle.std.proofs.lemmas.Bool.{or_left}
-use Rattle.theory.specs.Lists.{any_of}
+use Rattle.std.specs.List.{list_any, list_all, count_by}
+use Rattle.std.proofs.lemmas.List.Recursion.{is_count_by}
+use Rattle.theory.specs.Lists.{any_of, all_of, count_of}
 
 -- what is left to look at tells as much as all
 abbrev pub Left : {A B : Type 0} → (B → Bool) → (A → B) → List A → ℕ → Type 0
@@ -25,3 +27,20 @@ module _ {A B : Type 0} (p : B → Bool) (f : A → B) (xs : List A) (i : ℕ) w
 
   pub item_more : (x : A) → i < length xs → x ≡ get_or xs i x → Left p f xs i → p (f x) ≡ false → Left p f xs (i + 1)
   item_more x h is left e = scan_more x h left (ap (λ y. p (f y)) (sym is) ∙ e)
+
+-- what a search by `any` answers, where the test reads what an element means
+pub any_mapped : {A B : Type 0} (p : A → Bool) (q : B → Bool) (f : A → B) → ((a : A) → p a ≡ q (f a)) → (xs : List A) → list_any p xs ≡ any_of q (map f xs)
+any_mapped p q f same [] = refl
+any_mapped p q f same (a ∷ xs) = let here = same a in let rest = any_mapped p q f same xs in cc
+
+-- the same of `all`, and of a count
+pub all_mapped : {A B : Type 0} (p : A → Bool) (q : B → Bool) (f : A → B) → ((a : A) → p a ≡ q (f a)) → (xs : List A) → list_all p xs ≡ all_of q (map f xs)
+all_mapped p q f same [] = refl
+all_mapped p q f same (a ∷ xs) = let here = same a in let rest = all_mapped p q f same xs in cc
+
+pub count_mapped : {A B : Type 0} (p : A → Bool) (q : B → Bool) (f : A → B) → ((a : A) → p a ≡ q (f a)) → (xs : List A) → count_by p xs ≡ count_of q (map f xs)
+count_mapped p q f same xs =
+    sym (is_count_by (λ xs. count_of q (map f xs)) p refl (λ x xs. step (count_of q (map f xs)) (same x)) xs)
+  where
+    step : {b d : Bool} (n : ℕ) → d ≡ b → cond b (suc n) n ≡ cond d (1 + n) n
+    step {b} {d} n e = ap (λ c. cond c (suc n) n) (sym e) ∙ ap (λ m. cond d m n) (omega arith)
