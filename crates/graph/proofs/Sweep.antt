@@ -6,6 +6,7 @@ use Rattle.graph.specs.declared.reach.Visit.{Visit}
 use Rattle.graph.specs.declared.reach.Visit.TheVariants.{Unseen, Seen, Followed}
 use Rattle.graph.specs.Digraph.{Digraph, Step, Leads, stay, step}
 use Rattle.graph.specs.Visits.{visit_at, IsKnown, Follows}
+use Rattle.graph.proofs.Made.{get_or-replicate_same}
 use Rattle.graph.proofs.Walks.{join, one}
 
 -- how many nodes are not followed
@@ -50,17 +51,11 @@ pub record Swept (g : Digraph) (a : ℕ) (visits : List Visit) : Type 0 where
   pub sound : (k : ℕ) → IsKnown (visit_at visits k) → (k < g.nodes) × Leads g a k
   pub closed : (x y : ℕ) → Step g x y → visit_at visits x ≡ Followed → IsKnown (visit_at visits y)
 
--- no node is known
-unseen : (n i : ℕ) → visit_at (replicate n Unseen) i ≡ Unseen
-unseen zero i = refl
-unseen (suc n) zero = refl
-unseen (suc n) (suc i) = unseen n i
-
 -- the search begins: one node is known
 pub swept_none : (g : Digraph) (a : ℕ) → a < 48 → a < g.nodes → Swept g a (set (replicate 48 Unseen) a Seen)
 swept_none g a h i =
     let same = get_or-set_same (replicate 48 Unseen) a Seen Unseen h in
-    let other : (k : ℕ) → k ≢ a → visit_at (set (replicate 48 Unseen) a Seen) k ≡ Unseen = λ k ne. get_or-set_other (replicate 48 Unseen) a k Seen Unseen ne ∙ unseen 48 k in
+    let other : (k : ℕ) → k ≢ a → visit_at (set (replicate 48 Unseen) a Seen) k ≡ Unseen = λ k ne. get_or-set_other (replicate 48 Unseen) a k Seen Unseen ne ∙ get_or-replicate_same 48 k Unseen in
     record {
       long = length-set (replicate 48 Unseen) a Seen;
       start = λ q. cc;

@@ -1,11 +1,12 @@
 -- Paths of marked nodes.
-use Rattle.std.proofs.Common.{◌≡◌, ℕ, zero, suc, ◌+◌, ◌<◌, ◌≤◌, Bool, true, ◌⊎◌, List, [], ◌∷◌, length, get_or, replicate, sym, refl, ◌∙◌, subst, inl, inr, ⊎_elim, arith}
+use Rattle.std.proofs.Common.{◌≡◌, ℕ, suc, ◌+◌, ◌<◌, ◌≤◌, Bool, true, ◌⊎◌, List, [], ◌∷◌, length, get_or, replicate, sym, refl, ◌∙◌, subst, inl, inr, ⊎_elim, arith}
 use mathlib.Core.List.Memᴰ
 use Rattle.std.proofs.lemmas.Bool.{cases_Bool, cases_lt, both_ways}
 use Rattle.graph.specs.Digraph.{Digraph, Step, Leads, stay, step, Walk}
 use Rattle.shapes.specs.Cycles.{DirectedCycle}
 use Rattle.graph.specs.Digraph.{◌∈◌, Distinct}
 use Rattle.shapes.specs.Heights.{MarkedPath, IsHeight, OneHeight, OneMore, Largest}
+use Rattle.graph.proofs.Made.{get_or-replicate_same}
 use Rattle.graph.proofs.Pigeon.{pigeon}
 
 -- the first node leads to each
@@ -18,11 +19,6 @@ leads_in g a (c ∷ l) b (s, w) x (Memᴰ.tail m) = let (d, t, p) = leads_in g c
 pub walk_distinct : (g : Digraph) → (DirectedCycle g → ⊥) → (a : ℕ) (l : List ℕ) (b : ℕ) → Walk g a l b → Distinct (a ∷ l)
 walk_distinct g free a [] b w = (λ m. elim m [ ], tt)
 walk_distinct g free a (c ∷ l) b w = (λ m. free (a, leads_in g a (c ∷ l) b w a m), walk_distinct g free c l b w.1)
-
-zeros : (n i : ℕ) → ◌≡◌ {A = ℕ} (get_or (replicate n 0) i 0) 0
-zeros zero i = refl
-zeros (suc n) zero = refl
-zeros (suc n) (suc i) = zeros n i
 
 module _ (g : Digraph) (marked : ℕ → Bool) where
   pub alone : (x : ℕ) → x < g.nodes → marked x ≡ true → MarkedPath g marked x []
@@ -52,7 +48,7 @@ module _ (g : Digraph) (marked : ℕ → Bool) where
   none x = record { reached = λ h. absurd (omega arith); most = λ l p h. omega arith; small = omega arith }
 
   pub best_none : (n x : ℕ) → Best 0 x (get_or (replicate n 0) x 0)
-  best_none n x = subst (λ h. Best 0 x h) (sym (zeros n x)) (none x)
+  best_none n x = subst (λ h. Best 0 x h) (sym (get_or-replicate_same n x 0)) (none x)
 
   module _ (k : ℕ) (best : ℕ → ℕ) (all : (y : ℕ) → y < g.nodes → Best k y (best y)) (x r : ℕ) (node : x < g.nodes) (o : OneMore g marked best x r) where
     reached_on : marked x ≡ true → (r ≡ 1) ⊎ ((y : ℕ) × Step g x y × (r ≡ suc (best y))) → (l : List ℕ) × MarkedPath g marked x l × (length (x ∷ l) ≡ r)

@@ -1,28 +1,25 @@
 -- A table of rows: no edge, and one edge more.
-use Rattle.std.proofs.Common.{◌≡◌, ℕ, zero, suc, ◌<◌, Bool, true, false, ◌&&◌, ◌||◌, eqb, ◌⊎◌, List, [], length, get_or, set, replicate, sym, refl, ap, ◌∙◌, ap₂, inl, inr, ⊎_elim, get_or-set_other, get_or-set_same}
+use Rattle.std.proofs.Common.{◌≡◌, ℕ, ◌<◌, Bool, true, false, ◌&&◌, ◌||◌, eqb, ◌⊎◌, List, [], length, get_or, set, replicate, sym, refl, ap, ◌∙◌, ap₂, inl, inr, ⊎_elim, arith, get_or-set_other, get_or-set_same}
 use mathlib.Core.Path.{fun_ext}
-use Rattle.std.proofs.lemmas.Bool.{cases_eq, eq-eqb, ne_eqb, or_right, and_left}
+use Rattle.std.proofs.lemmas.Bool.{cases_eq, cases_lt, eq-eqb, ne_eqb, or_right, and_left}
+use Rattle.std.proofs.lemmas.List.{get_or-replicate, get_or_past, length-replicate}
 use Rattle.graph.specs.Digraph.{Digraph}
+use Rattle.graph.proofs.Made.{get_or-replicate_same}
 use Rattle.shapes.specs.Views.{tabled, edgeless, with_edge}
 
 same_edges : (n : ℕ) (e f : ℕ → ℕ → Bool) → ((x y : ℕ) → e x y ≡ f x y) → ◌≡◌ {A = Digraph} (record { nodes = n; edge = e }) (record { nodes = n; edge = f })
 same_edges n e f h = ap (λ (d : ℕ → ℕ → Bool). record { nodes = n; edge = d }) (fun_ext (λ x. fun_ext (λ y. h x y)))
 
--- no mark is set
-unset : (n i : ℕ) → get_or (replicate n false) i false ≡ false
-unset zero i = refl
-unset (suc n) zero = refl
-unset (suc n) (suc i) = unset n i
-
+-- a row is blank, or past the last
 blank : (m k x : ℕ) → (get_or (replicate m (replicate k false)) x [] ≡ replicate k false) ⊎ (get_or (replicate m (replicate k false)) x [] ≡ [])
-blank zero k x = inr refl
-blank (suc m) k zero = inl refl
-blank (suc m) k (suc x) = blank m k x
+blank m k x =
+    let long = length-replicate m (replicate k false) in
+    ⊎_elim (λ h. inl (get_or-replicate m x (replicate k false) [] h)) (λ h. inr (get_or_past (replicate m (replicate k false)) x [] (omega arith))) (cases_lt x m)
 
 pub tabled_none : (m k n : ℕ) → tabled (replicate m (replicate k false)) n ≡ edgeless n
 tabled_none m k n =
     same_edges n _ _
-    (λ x y. ⊎_elim (λ e. ap (λ r. get_or r y false) e ∙ unset k y) (λ e. ap (λ r. get_or r y false) e) (blank m k x))
+    (λ x y. ⊎_elim (λ e. ap (λ r. get_or r y false) e ∙ get_or-replicate_same k y false) (λ e. ap (λ r. get_or r y false) e) (blank m k x))
 
 or_none : (u v : Bool) → v ≡ false → (u || v) ≡ u
 or_none true v e = refl
