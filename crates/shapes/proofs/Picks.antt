@@ -1,13 +1,12 @@
 -- The largest number of those that pass, over the numbers below n.
 use Rattle.std.proofs.Common.{◌≡◌, ℕ, zero, suc, ◌+◌, ◌<◌, ◌≤◌, max, Bool, true, false, cond, ◌⊎◌, List, [], ◌∷◌, map, filter, Option, Some, None, refl, sym, subst, ap, ◌∙◌, inl, inr, ⊎_elim, arith}
-use Rattle.std.proofs.lemmas.Bool.{both_ways, cases_eq, cases_lt}
 use Rattle.std.specs.List.{range_with_len, fold, reduce}
 use Rattle.std.specs.Option.{option_map, unwrap_or}
 use Rattle.graph.specs.Digraph.{Digraph}
 use Rattle.shapes.specs.Heights.{BestAfter}
 
 module _ (f : ℕ → ℕ) (p : ℕ → Bool) where
-  -- r is the largest of `least` and of f at what passes from a on and below b
+  -- r is the largest of `start` and of f at what passes from a on and below b
   record Picked (a b start r : ℕ) : Type 0 where
     pub first : start ≤ r
     pub above : (y : ℕ) → a ≤ y → y < b → p y ≡ true → f y ≤ r
@@ -17,21 +16,10 @@ module _ (f : ℕ → ℕ) (p : ℕ → Bool) where
   picked_none a b start h = record { first = omega arith; above = λ y i j e. absurd (omega arith); one = inl refl }
 
   picked_more : (a b start r : ℕ) → a < b → p a ≡ true → Picked (a + 1) b (max start (f a)) r → Picked a b start r
-  picked_more a b start r h e q = record {
-    first = let i = q.first in omega arith;
-    above = λ y i j t. let k = q.first in ⊎_elim (λ s. let u = ap f s in omega arith) (λ ne. q.above y (omega arith) j t) (cases_eq y a);
-    one = ⊎_elim (λ s. larger s) (λ s. inr s) q.one;
-  }
-    where
-      larger : r ≡ max start (f a) → (r ≡ start) ⊎ ((y : ℕ) × (y < b) × (p y ≡ true) × (r ≡ f y))
-      larger s = ⊎_elim (λ i. inr (a, h, e, omega arith)) (λ i. inl (omega arith)) (cases_lt start (f a))
+  picked_more a b start r h e q = record { first = grind (arith, q.first); above = λ y i j t. grind (arith, q.first, q.above y); one = grind (arith, q.one) }
 
   picked_past : (a b start r : ℕ) → p a ≡ false → Picked (a + 1) b start r → Picked a b start r
-  picked_past a b start r e q = record {
-    first = q.first;
-    above = λ y i j t. ⊎_elim (λ s. absurd (both_ways (p a) e (subst (λ k. p k ≡ true) s t))) (λ ne. q.above y (omega arith) j t) (cases_eq y a);
-    one = q.one;
-  }
+  picked_past a b start r e q = record { first = q.first; above = λ y i j t. grind (arith, q.above y); one = q.one }
 
   -- what the largest of a list made from the numbers from a on is
   picked : (a n start : ℕ) → Picked a (a + n) start (fold max start (map f (filter p (range_with_len a n))))

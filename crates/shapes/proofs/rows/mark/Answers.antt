@@ -1,6 +1,6 @@
-use Rattle.std.proofs.Common.{arith}
-use Rattle.shapes.proofs.Tables.{marked}
+use Rattle.std.proofs.Common.{arith, get_or-set_same, get_or-set_other}
+use Rattle.std.proofs.lemmas.Bool.Decides.{nat_tests}
 use Rattle.shapes.proofs.rows.mark.Goals as goal
 
 pub returns : goal.returns
-returns c = marked c.args.row.now c.args.to (omega arith)
+returns c = grind (arith, nat_tests, get_or-set_same, get_or-set_other)
