@@ -31,8 +31,5 @@ pub struct In<E, P> {
 pub fn within<T, E, P: Drop>(res: Result<T, E>, place: P) -> Result<T, In<E, P>>
     ensures { result ≡ placed res place }
 {
-    match res {
-        Ok(value) => Ok(value),
-        Err(error) => Err(In { error, place }),
-    }
+    res.map_err(|error| In { error, place })
 }
