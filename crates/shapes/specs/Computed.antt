@@ -1,5 +1,5 @@
 -- The same by tests that compute, for graphs that are written out.
-use Rattle.std.specs.Prelude.{ℕ, zero, suc, max, Bool, cond, ◌&&◌}
+use Rattle.std.specs.Prelude.{ℕ, zero, suc, max, Bool, if◌then◌else◌, ◌&&◌}
 use Rattle.shapes.specs.declared.shape.Shape.{Shape}
 use Rattle.shapes.specs.declared.shape.Shape.TheVariants.{Forest, Acyclic, Cyclic}
 use Rattle.graph.specs.Digraph.{Digraph}
@@ -28,12 +28,12 @@ abbrev pub has_ring : Digraph → Bool
 has_ring g = some_below (on_ring g) g.nodes
 
 abbrev pub shape_of : Digraph → Shape
-shape_of g = cond (has_cycle g) Cyclic (cond (has_ring g) Acyclic Forest)
+shape_of g = if has_cycle g then Cyclic else (if has_ring g then Acyclic else Forest)
 
 -- the most nodes on one path of at most k marked nodes from x
 abbrev pub best_in : Digraph → (ℕ → Bool) → ℕ → ℕ → ℕ
 best_in g marked zero x = 0
-best_in g marked (suc k) x = cond (marked x) (suc (most_below (λ y. cond (g.edge x y) (best_in g marked k y) 0) g.nodes)) 0
+best_in g marked (suc k) x = if marked x then suc (most_below (λ y. if g.edge x y then best_in g marked k y else 0) g.nodes) else 0
 
 abbrev pub height_of : Digraph → (ℕ → Bool) → ℕ
 height_of g marked = most_below (best_in g marked g.nodes) g.nodes
