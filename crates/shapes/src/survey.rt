@@ -1,7 +1,7 @@
 ghost use Rattle.graph.specs.Digraph.{marks};
 ghost use Rattle.shapes.specs.Surveys.{Surveyed};
 
-use crate::height::height;
+use crate::height::Marked;
 use crate::shape::{Shape, classify};
 use graph::graph::{Graph, MOST};
 
@@ -19,7 +19,7 @@ pub fn look<G: Graph>(g: &G, marked: &[bool; MOST]) -> Survey
     let shape = classify(g);
     let height = match shape {
         Shape::Cyclic => 0,
-        Shape::Acyclic | Shape::Forest => height(g, marked),
+        Shape::Acyclic | Shape::Forest => Marked { graph: g, marked }.height(),
     };
     Survey { shape, height }
 }

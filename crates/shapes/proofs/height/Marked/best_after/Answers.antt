@@ -3,11 +3,11 @@ use Rattle.std.proofs.lemmas.Iterator.{YieldsList-from_range, YieldsList-from_ma
 use Rattle.std.proofs.lemmas.Iterator.Consumers.{YieldsList-at, YieldsList-from_filter, max_from_yields_List}
 use borrow.Author.Tests.{tests}
 use Rattle.shapes.proofs.Picks.{best_by}
-use Rattle.shapes.proofs.height.best_after.Goals as goal
+use Rattle.shapes.proofs.height.Marked.best_after.Goals as goal
 
 pub returns : goal.returns
 returns g c =
-    let d = g.G.Graph.digraph c.args.g.now in
+    let d = g.G.Graph.digraph c.args.self.now.graph.now in
     best_by d (λ y. get_or c.args.best.now y 0) c.args.x c.nodes.result c.max.result c.unwrap_or.result c.requires c.nodes.ensures.count
     (max_from_yields_List c.map-after.result c.max.result c.max.ensures.ran
     (YieldsList-from_map _ (λ (y : ℕ). get_or c.args.best.now y 0)
