@@ -1,5 +1,5 @@
 pub mod Asserting
 pub mod Families
-pub mod Marking
-pub mod Scanning
+pub mod Stating
 pub mod Witnesses
+pub mod Marking

@@ -5,8 +5,6 @@ mod adding;
 mod entries;
 mod listing;
 mod marks;
-mod opening;
-mod reading;
 
 pub use crate::entries::first_entries;
 pub use crate::listing::{first_terms, last_term};
