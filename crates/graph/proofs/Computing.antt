@@ -19,7 +19,7 @@ some_below_decides p P (suc n) each =
           ⊎_elim (λ i. or_right (p n) _ (below.1 (k, i, q))) (λ i. or_left _ _ ((each n (omega arith)).1 (subst P (omega arith) q))) (cases_lt k n),
     )
 
-some_of : (p : ℕ → Bool) (n : ℕ) → Decides (some_below p n) ((k : ℕ) × (k < n) × (p k ≡ true))
+pub some_of : (p : ℕ → Bool) (n : ℕ) → Decides (some_below p n) ((k : ℕ) × (k < n) × (p k ≡ true))
 some_of p n = some_below_decides p (λ k. p k ≡ true) n (λ k _. (λ e. e, λ e. e))
 
 walk_nodes : (g : Digraph) (x a : ℕ) (l : List ℕ) (b : ℕ) → Walk g a l b → a < g.nodes → x ∈ (a ∷ l) → x < g.nodes

@@ -1,5 +1,5 @@
 ghost use Rattle.std.specs.Prelude.{◌≡◌};
-ghost use Rattle.theory.specs.Table.{has_form};
+ghost use Rattle.theory.specs.Table.{has_form, open_role};
 ghost use Rattle.layout.specs.Meaning.{axiom_in};
 
 use names::{Concept, Individual, Role};
@@ -31,6 +31,15 @@ pub enum Axiom {
     OpenConcept(Concept),
     /// 12: role p is open
     OpenRole(Role),
+}
+
+/// What fills the unused places of a list of axioms.
+impl Default for Axiom {
+    ghost is_default = { λ a. axiom_in a ≡ open_role 0 };
+
+    fn default() -> Axiom {
+        Axiom::OpenRole(Role { number: 0 })
+    }
 }
 
 impl Axiom {

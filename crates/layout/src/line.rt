@@ -1,5 +1,5 @@
 /// A form code and the four words of its record.
-#[derive(Clone, Copy, PartialEq, Eq, Debug)]
+#[derive(Clone, Copy, Default, PartialEq, Eq, Debug)]
 pub struct Line {
     pub form: u16,
     pub p: u16,

@@ -1,9 +1,9 @@
 -- What checking answers, by how far it came.
-use Rattle.std.proofs.Common.{◌≡◌, ℕ, ◌+◌, ◌-◌, ◌*◌, ◌<◌, ◌≤◌, true, false, cond, not, eqb, ltb, List, [], ◌∷◌, ◌++◌, map, length, take, drop, Some, None, Ok, Err, Option, Result, sym, refl, ap, ◌∙◌, subst, zero-add, arith, length-drop, length-take}
-use native.Mathlib.Nat.{sub-zero}
+use Rattle.std.proofs.Common.{◌≡◌, ℕ, ◌+◌, ◌*◌, ◌<◌, ◌≤◌, true, false, cond, not, eqb, ltb, List, [], ◌∷◌, ◌++◌, map, length, drop, Some, None, Ok, Err, Option, Result, sym, refl, ap, ◌∙◌, subst, zero-add, arith, length-drop}
 use mathlib.Core.List.Memᴰ
 use Rattle.std.proofs.lemmas.Bool.{cond-true, cond-false, not-false}
 use Rattle.std.proofs.lemmas.Bool.Decides.{nat_tests}
+use Rattle.arrayvec.specs.ArrayVec.{ArrayVec}
 use Rattle.theory.specs.Table as theory
 use Rattle.theory.specs.Lists.{◌∈◌, any_of, all_of, up_from, each}
 use Rattle.theory.specs.Table.{Table, Line, axiom_of, same_line}
@@ -19,7 +19,6 @@ use Rattle.layout.specs.Forms.{kinds_of, has_kinds, limit, fits_by, fits_line}
 use Rattle.layout.specs.Limits.{line_refusal}
 use Rattle.layout.specs.Meaning.{axiom_in, table_of}
 use Rattle.layout.specs.Words.{axioms_in, line_at, lines_to, said, says}
-use Rattle.theory.proofs.Accepting.{sizes_within}
 use Rattle.theory.proofs.Members.{all_of_decides}
 use Rattle.theory.proofs.Places.{each_in, up_in}
 use Rattle.layout.proofs.Fitting.{line_says}
@@ -109,15 +108,15 @@ module _ (bs : List ℕ) where
         at : (k : ℕ) → first (applies bs) (line_tests (0 + k)) ≡ refusal_no (table_of z []) (drop 8 bs) z.axioms k
         at k = ap (λ j. first (applies bs) (line_tests j)) (zero-add k) ∙ sym (test_at k)
 
-    module _ (l : List Axiom) (read : LinesRead (table_of z []) (drop 8 bs) z.axioms (Ok l)) where
+    module _ (l : ArrayVec Axiom) (read : LinesRead (table_of z []) (drop 8 bs) z.axioms (Ok l)) where
       -- the axioms that were read are those that the bytes say
-      axioms_said : (says bs).axioms ≡ map axiom_in (take z.axioms l)
+      axioms_said : (says bs).axioms ≡ map axiom_in l.items
       axioms_said =
           sym
           (read.0 ∙ ap (λ n. says_no (drop 8 bs) n n) header.axioms
           ∙ ap (each (λ x. said (axiom_of x))) (lines_at bs (axioms_in bs)))
 
-      table_said : says bs ≡ table_of z (take z.axioms l)
+      table_said : says bs ≡ table_of z l.items
       table_said i =
           record { concepts = sym header.concepts i; roles = sym header.roles i; individuals = sym header.individuals i; axioms = axioms_said i }
 
@@ -146,71 +145,65 @@ module _ (bs : List ℕ) where
               let (_, low) = up_in 0 (axioms_in bs) k u in
               by_line k (omega arith) a (subst (λ x. a ∈ said (axiom_of x)) (sym e) j)
 
-      declared_read : all_of (declares (table_of z (take z.axioms l))) (map axiom_in (take z.axioms l)) ≡ true
+      declared_read : all_of (declares (table_of z l.items)) (map axiom_in l.items) ≡ true
       declared_read = subst (λ t. all_of (declares t) t.axioms ≡ true) table_said said_declared
 
-      witness_test : (k : ℕ) → applies bs (TooManyWitnesses k) ≡ too_many (map axiom_in (take z.axioms l)) k
+      witness_test : (k : ℕ) → applies bs (TooManyWitnesses k) ≡ too_many (map axiom_in l.items) k
       witness_test k = ap (λ as'. too_many as' k) axioms_said
 
-      simple_test : (k : ℕ) → applies bs (NotSimple k) ≡ not_simple (table_of z (take z.axioms l)) k
+      simple_test : (k : ℕ) → applies bs (NotSimple k) ≡ not_simple (table_of z l.items) k
       simple_test k = ap (λ t. not_simple t k) table_said
 
-      bad_witness : (f : Refusal) → FirstPlace (too_many (map axiom_in (take z.axioms l))) TooManyWitnesses (axioms_in bs) (Err f) → checked bs ≡ refused f
+      bad_witness : (f : Refusal) → FirstPlace (too_many (map axiom_in l.items)) TooManyWitnesses (axioms_in bs) (Err f) → checked bs ≡ refused f
       bad_witness f h =
           lines_passed
           ∙ ap (outcome (says bs))
           (found (applies bs) (map TooManyWitnesses (up_from 0 (axioms_in bs))) _ f (place_some (applies bs) TooManyWitnesses _ witness_test (axioms_in bs) f h))
 
-      module _ (few : FirstPlace (too_many (map axiom_in (take z.axioms l))) TooManyWitnesses (axioms_in bs) (Ok tt)) where
+      module _ (few : FirstPlace (too_many (map axiom_in l.items)) TooManyWitnesses (axioms_in bs) (Ok tt)) where
         witnesses_passed : checked bs ≡ outcome (says bs) (first (applies bs) (map NotSimple (up_from 0 (axioms_in bs))))
         witnesses_passed =
             lines_passed
             ∙ ap (outcome (says bs))
             (passed (applies bs) (map TooManyWitnesses (up_from 0 (axioms_in bs))) _ (place_none (applies bs) TooManyWitnesses _ witness_test (axioms_in bs) tt few))
 
-        bad_count : (f : Refusal) → FirstPlace (not_simple (table_of z (take z.axioms l))) NotSimple (axioms_in bs) (Err f) → checked bs ≡ refused f
+        bad_count : (f : Refusal) → FirstPlace (not_simple (table_of z l.items)) NotSimple (axioms_in bs) (Err f) → checked bs ≡ refused f
         bad_count f h = witnesses_passed ∙ ap (outcome (says bs)) (place_some (applies bs) NotSimple _ simple_test (axioms_in bs) f h)
 
-        accepts : FirstPlace (not_simple (table_of z (take z.axioms l))) NotSimple (axioms_in bs) (Ok tt) → checked bs ≡ accepted (table_of z (take z.axioms l))
+        accepts : FirstPlace (not_simple (table_of z l.items)) NotSimple (axioms_in bs) (Ok tt) → checked bs ≡ accepted (table_of z l.items)
         accepts h = witnesses_passed ∙ ap (outcome (says bs)) (place_none (applies bs) NotSimple _ simple_test (axioms_in bs) tt h) ∙ ap accepted table_said
 
--- the same by what the program holds: the bytes after the sizes, and the axioms up to their count
+-- the same by what the program holds: the bytes after the sizes, and as many axioms as the sizes say
 module _ (bs rest : List ℕ) (z : Sizes) (e : rest ≡ drop 8 bs) (header : Header bs z) where
   pub line_refused : (f : Refusal) → LinesRead (table_of z []) rest z.axioms (Err f) → checked bs ≡ refused f
   line_refused f h = bad_line bs z header f (subst (λ x. LinesRead (table_of z []) x z.axioms (Err f)) e h)
 
-  module _ (l : List Axiom) (h : length l ≡ 64) (raw : LinesRead (table_of z []) rest z.axioms (Ok l)) where
-    abbrev slice : List Axiom
-    slice = take (z.axioms - 0) l
-
+  module _ (l : ArrayVec Axiom) (h : length l.items ≡ z.axioms) (raw : LinesRead (table_of z []) rest z.axioms (Ok l)) (ys : List Axiom) (same : ys ≡ l.items) where
     read : LinesRead (table_of z []) (drop 8 bs) z.axioms (Ok l)
     read = subst (λ x. LinesRead (table_of z []) x z.axioms (Ok l)) e raw
 
-    sliced : slice ≡ take z.axioms l
-    sliced = ap (λ k. take k l) (sub-zero z.axioms)
+    count : length l.items ≡ axioms_in bs
+    count = h ∙ header.axioms
 
-    count : length slice ≡ axioms_in bs
-    count = length-take (z.axioms - 0) l ∙ omega (arith, (sizes_within z.concepts z.roles z.individuals z.axioms z.limits).5, header.axioms)
-
-    few_at : (r : Result (Unit {0}) Refusal) → FirstPlace (too_many (map axiom_in slice)) TooManyWitnesses (length slice) r → FirstPlace (too_many (map axiom_in (take z.axioms l))) TooManyWitnesses (axioms_in bs) r
+    few_at : (r : Result (Unit {0}) Refusal) → FirstPlace (too_many (map axiom_in ys)) TooManyWitnesses (length ys) r → FirstPlace (too_many (map axiom_in l.items)) TooManyWitnesses (axioms_in bs) r
     few_at r p =
-        subst (λ k. FirstPlace (too_many (map axiom_in (take z.axioms l))) TooManyWitnesses k r) count
-        (subst (λ ys. FirstPlace (too_many (map axiom_in ys)) TooManyWitnesses (length slice) r) sliced p)
+        subst (λ k. FirstPlace (too_many (map axiom_in l.items)) TooManyWitnesses k r) count
+        (subst (λ xs. FirstPlace (too_many (map axiom_in xs)) TooManyWitnesses (length xs) r) same p)
 
-    simple_at : (r : Result (Unit {0}) Refusal) → FirstPlace (not_simple (table_of z slice)) NotSimple (length slice) r → FirstPlace (not_simple (table_of z (take z.axioms l))) NotSimple (axioms_in bs) r
+    simple_at : (r : Result (Unit {0}) Refusal) → FirstPlace (not_simple (table_of z ys)) NotSimple (length ys) r → FirstPlace (not_simple (table_of z l.items)) NotSimple (axioms_in bs) r
     simple_at r p =
-        subst (λ k. FirstPlace (not_simple (table_of z (take z.axioms l))) NotSimple k r) count
-        (subst (λ ys. FirstPlace (not_simple (table_of z ys)) NotSimple (length slice) r) sliced p)
+        subst (λ k. FirstPlace (not_simple (table_of z l.items)) NotSimple k r) count
+        (subst (λ xs. FirstPlace (not_simple (table_of z xs)) NotSimple (length xs) r) same p)
 
-    pub all_declared : all_of (declares (table_of z slice)) (map axiom_in slice) ≡ true
-    all_declared = subst (λ ys. all_of (declares (table_of z ys)) (map axiom_in ys) ≡ true) (sym sliced) (declared_read bs z header l read)
+    pub all_declared : all_of (declares (table_of z ys)) (map axiom_in ys) ≡ true
+    all_declared = subst (λ xs. all_of (declares (table_of z xs)) (map axiom_in xs) ≡ true) (sym same) (declared_read bs z header l read)
 
-    pub witness_refused : (f : Refusal) → FirstPlace (too_many (map axiom_in slice)) TooManyWitnesses (length slice) (Err f) → checked bs ≡ refused f
+    pub witness_refused : (f : Refusal) → FirstPlace (too_many (map axiom_in ys)) TooManyWitnesses (length ys) (Err f) → checked bs ≡ refused f
     witness_refused f p = bad_witness bs z header l read f (few_at (Err f) p)
 
-    module _ (few : FirstPlace (too_many (map axiom_in slice)) TooManyWitnesses (length slice) (Ok tt)) where
-      pub count_refused : (f : Refusal) → FirstPlace (not_simple (table_of z slice)) NotSimple (length slice) (Err f) → checked bs ≡ refused f
+    module _ (few : FirstPlace (too_many (map axiom_in ys)) TooManyWitnesses (length ys) (Ok tt)) where
+      pub count_refused : (f : Refusal) → FirstPlace (not_simple (table_of z ys)) NotSimple (length ys) (Err f) → checked bs ≡ refused f
       count_refused f p = bad_count bs z header l read (few_at (Ok tt) few) f (simple_at (Err f) p)
 
-      pub all_passed : FirstPlace (not_simple (table_of z slice)) NotSimple (length slice) (Ok tt) → checked bs ≡ accepted (table_of z (take z.axioms l))
+      pub all_passed : FirstPlace (not_simple (table_of z ys)) NotSimple (length ys) (Ok tt) → checked bs ≡ accepted (table_of z l.items)
       all_passed p = accepts bs z header l read (few_at (Ok tt) few) (simple_at (Ok tt) p)

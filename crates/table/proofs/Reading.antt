@@ -1,7 +1,6 @@
 -- The loop that reads lines, over plain lists.
-use Rattle.std.proofs.Common.{◌≡◌, ℕ, zero, suc, ◌+◌, ◌-◌, ◌*◌, ◌<◌, List, [], ◌∷◌, ◌++◌, map, length, take, drop, set, Some, Option, sym, refl, ap, ◌∙◌, append_assoc, append-nil, add-zero, add-suc, suc-add, add-one, arith, length-drop, drop-drop}
+use Rattle.std.proofs.Common.{◌≡◌, ℕ, zero, suc, ◌+◌, ◌-◌, ◌*◌, List, [], ◌∷◌, ◌++◌, map, length, drop, Some, Option, sym, refl, ap, ◌∙◌, append_assoc, append-nil, add-zero, add-suc, suc-add, add-one, arith, length-drop, drop-drop}
 use mathlib.Core.List.{map-append}
-use Rattle.std.proofs.lemmas.List.{take_more_set}
 use Rattle.theory.specs.Lists.{up_from, each}
 use Rattle.theory.specs.Table.{Axiom, Table, Line, axiom_of}
 use Rattle.layout.specs.declared.refusal.Refusal.{Refusal}
@@ -32,9 +31,8 @@ each_append f (a ∷ l) k = ap (λ r. f a ++ r) (each_append f l k) ∙ sym (app
 pub mapped_more : {A : Type 0} (g : ℕ → A) (k : ℕ) → map g (up_from 0 (k + 1)) ≡ map g (up_from 0 k) ++ (g k ∷ [])
 mapped_more g k = ap (map g) (up_more k) ∙ map-append g (up_from 0 k) (k ∷ [])
 
-pub stored_more :
-    {A B : Type 0} (f : A → B) (xs : List A) (k : ℕ) (x : A) (ys : List B) → k < length xs → map f (take k xs) ≡ ys → map f (take (k + 1) (set xs k x)) ≡ ys ++ (f x ∷ [])
-stored_more f xs k x ys h e = ap (map f) (take_more_set xs k x h) ∙ map-append f (take k xs) (x ∷ []) ∙ ap (λ l. l ++ (f x ∷ [])) e
+pub pushed_more : {A B : Type 0} (f : A → B) (xs : List A) (x : A) (zs : List A) (ys : List B) → zs ≡ xs ++ (x ∷ []) → map f xs ≡ ys → map f zs ≡ ys ++ (f x ∷ [])
+pushed_more f xs x zs ys h e = ap (map f) h ∙ map-append f xs (x ∷ []) ∙ ap (λ l. l ++ (f x ∷ [])) e
 
 pub said_more : (rest : List ℕ) (n k : ℕ) (a : Axiom) → axiom_of (line_no rest n k) ≡ Some a → says_no rest n (k + 1) ≡ says_no rest n k ++ (a ∷ [])
 said_more rest n k a e =

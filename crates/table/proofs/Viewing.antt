@@ -1,12 +1,11 @@
 -- What is known of a well-formed table.
-use Rattle.std.proofs.Common.{◌≡◌, ℕ, ◌<◌, ◌≤◌, true, ◌⊎◌, List, map, Some, None, Decides, Option, sym, refl, ap, subst, inl, inr, ⊎_elim, arith, Bor}
-use lib.ListN.{length-map}
-use Rattle.std.specs.List.{slice_get}
-use Rattle.std.specs.Option.{option_map}
-use Rattle.std.specs.Slice.{IsGetResult}
-use Rattle.std.proofs.lemmas.Option.{slice_get_past}
-use Rattle.theory.proofs.Places.{nth_mapped}
+use Rattle.std.proofs.Common.{◌≡◌, ℕ, ◌<◌, ◌≤◌, Bool, true, false, ◌⊎◌, Decides, refl, ap, subst, inl, inr, ⊎_elim, arith}
+use Rattle.std.proofs.lemmas.Bool.{both_ways, cases_lt}
 use Rattle.std.proofs.lemmas.Bool.Decides.{Decides-like}
+use Rattle.table.specs.declared.expression.Expression as stated
+use Rattle.table.specs.declared.expression.Expression.TheVariants.{Plain, Inverse}
+use Rattle.table.specs.contracts.expression.ExpressionPartialEq.TheImpl.{ghosts}
+use Rattle.table.specs.Meaning.{expression_in}
 use Rattle.theory.specs.Table.{Table}
 use Rattle.theory.specs.Roles.{Expression, name_of, Included, same, more, Simple, same_expression}
 use Rattle.theory.specs.WellFormed.{Declared, well_formed}
@@ -14,10 +13,9 @@ use Rattle.theory.proofs.Accepting.{well_formed_decides}
 use Rattle.theory.proofs.Deciding.{same_expression_decides, transitive_declared}
 use Rattle.theory.proofs.Forms.{inclusion_names}
 
--- the element that is found at a place
-pub picked : {A B : Type 0} (f : A → B) (xs : List A) (k : ℕ) (r : Option (Bor A)) → IsGetResult xs k k r → option_map f (option_map (λ x. x.now) r) ≡ slice_get (map f xs) k
-picked f xs k None i = sym (slice_get_past (map f xs) k (simp length-map i.3))
-picked f xs k (Some x) i = sym (nth_mapped f xs k x.now i.3.0 i.1)
+-- what is not below a limit by a test
+pub not_below : (b : Bool) (n m : ℕ) → Decides b (n < m) → b ≡ false → m ≤ n
+not_below b n m d e = ⊎_elim (λ h. absurd (both_ways b e (d.1 h))) (λ h. h) (cases_lt n m)
 
 pub sound_declared : (t : Table) → well_formed t ≡ true → Declared t
 sound_declared t e = ((well_formed_decides t).0 e).declared
@@ -39,3 +37,10 @@ module _ (t : Table) (declared : Declared t) where
   undeclared_simple s h e i m =
       let low = transitive_declared t declared (name_of e) m in
       ⊎_elim (λ q. let n = ap name_of q in omega arith) (λ (_, k). omega arith) (ends i)
+
+-- two expressions are one by their derived test
+pub eq_same : (e f : stated.Expression) → ghosts.eq e f ≡ same_expression (expression_in e) (expression_in f)
+eq_same (Plain p) (Plain q) = refl
+eq_same (Plain p) (Inverse q) = refl
+eq_same (Inverse p) (Plain q) = refl
+eq_same (Inverse p) (Inverse q) = refl

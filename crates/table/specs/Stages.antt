@@ -1,6 +1,7 @@
 -- Checking by stages.
 use Rattle.std.specs.Prelude.{◌≡◌, ℕ, ◌+◌, ◌*◌, ◌<◌, ◌≤◌, Bool, true, false, not, ◌&&◌, List, map, length, take, drop, Some, None, Ok, Err, Option, Result, ◌==◌}
 use Rattle.std.specs.List.{slice_get}
+use Rattle.arrayvec.specs.ArrayVec.{ArrayVec}
 use Rattle.theory.specs.Lists.{count_of, up_from, each}
 use Rattle.theory.specs.Table as theory
 use Rattle.theory.specs.Table.{Table, Line, line, has_form, axiom_of}
@@ -51,8 +52,8 @@ abbrev pub says_no : List ℕ → ℕ → ℕ → List theory.Axiom
 says_no rest n k = each (λ l. said (axiom_of l)) (lines_no rest n k)
 
 -- every line passes, and the axioms are what they say; or the first that fails, and its first test
-abbrev pub LinesRead : Table → List ℕ → ℕ → Result (List Axiom) Refusal → Type 0
-LinesRead t rest n (Ok l) = (map axiom_in (take n l) ≡ says_no rest n n) × ((k : ℕ) → k < n → refusal_no t rest n k ≡ None)
+abbrev pub LinesRead : Table → List ℕ → ℕ → Result (ArrayVec Axiom) Refusal → Type 0
+LinesRead t rest n (Ok v) = (map axiom_in v.items ≡ says_no rest n n) × ((k : ℕ) → k < n → refusal_no t rest n k ≡ None)
 LinesRead t rest n (Err f) = (k : ℕ) × (k < n) × (refusal_no t rest n k ≡ Some f) × ((j : ℕ) → j < k → refusal_no t rest n j ≡ None)
 
 -- the first place below n at which a test passes makes the refusal

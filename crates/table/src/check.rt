@@ -4,7 +4,7 @@ ghost use Rattle.table.specs.Stages.{HeaderRead};
 
 use crate::checked::Checked;
 use crate::lines::{read_lines, word_of};
-use crate::stages::{few_witnesses, simple_counts};
+use crate::stated::Stated;
 use layout::refusal::Refusal;
 use layout::sizes::Sizes;
 
@@ -45,8 +45,11 @@ pub fn check(bytes: &[u8]) -> Result<Checked, Refusal>
 {
     let sizes = read_sizes(bytes)?;
     let axioms = read_lines(sizes, &bytes[8..])?;
-    let count = sizes.axioms as usize;
-    few_witnesses(&axioms[0..count])?;
-    simple_counts(sizes, &axioms[0..count])?;
+    let stated = Stated {
+        sizes,
+        axioms: axioms.as_slice(),
+    };
+    stated.few_witnesses()?;
+    stated.simple_counts()?;
     Ok(Checked { sizes, axioms })
 }

@@ -1,7 +1,8 @@
-ghost use Rattle.std.specs.Prelude.{◌≡◌, true, take};
+ghost use Rattle.std.specs.Prelude.{◌≡◌, true, length};
 ghost use Rattle.theory.specs.WellFormed.{well_formed};
 ghost use Rattle.layout.specs.Meaning.{table_of};
 
+use arrayvec::ArrayVec;
 use layout::axiom::Axiom;
 use layout::sizes::Sizes;
 
@@ -12,6 +13,7 @@ pub const MOST: usize = 64;
 #[derive(Drop)]
 pub struct Checked {
     pub(crate) sizes: Sizes,
-    pub(crate) axioms: [Axiom; MOST],
-    ghost sound: { well_formed (table_of sizes (take sizes.axioms axioms)) ≡ true },
+    pub(crate) axioms: ArrayVec<Axiom, MOST>,
+    ghost counted: { length axioms.items ≡ sizes.axioms },
+    ghost sound: { well_formed (table_of sizes axioms.items) ≡ true },
 }

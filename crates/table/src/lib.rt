@@ -8,4 +8,5 @@ mod inclusions;
 mod lines;
 mod roles;
 mod stages;
+mod stated;
 pub mod view;

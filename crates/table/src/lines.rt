@@ -1,21 +1,21 @@
-ghost use Rattle.std.specs.Prelude.{◌≡◌, ◌*◌, ◌≤◌, [], length, drop};
+ghost use Rattle.std.specs.Prelude.{◌≡◌, ◌*◌, ◌≤◌, [], length, drop, IfOk};
 ghost use Rattle.layout.specs.Meaning.{line_in, table_of};
 ghost use Rattle.layout.specs.Words.{word, word_at};
 ghost use Rattle.table.specs.Stages.{line_from, LinesRead};
 
 use crate::checked::MOST;
+use arrayvec::ArrayVec;
 use layout::axiom::Axiom;
 use layout::line::Line;
 use layout::reading::read_line;
 use layout::refusal::Refusal;
 use layout::sizes::Sizes;
-use names::Role;
 
 /// A 16-bit word.
 pub(crate) fn word_of(low: u8, high: u8) -> u16
     ensures { result ≡ word low high }
 {
-    u16::from(low) + 256 * u16::from(high)
+    u16::from_le_bytes([low, high])
 }
 
 /// A form code, and the codes after it.
@@ -61,28 +61,20 @@ fn split_record(form: u16, records: &[u8]) -> (Line, &[u8])
 }
 
 /// Reads the lines of a table, each of which passes its three tests before the next is looked at.
-pub(crate) fn read_lines(sizes: Sizes, rest: &[u8]) -> Result<[Axiom; MOST], Refusal>
+pub(crate) fn read_lines(sizes: Sizes, rest: &[u8]) -> Result<ArrayVec<Axiom, MOST>, Refusal>
     requires { length rest.now ≡ 10 * sizes.axioms }
-    ensures { LinesRead (table_of sizes []) rest.now sizes.axioms result }
+    ensures read { LinesRead (table_of sizes []) rest.now sizes.axioms result }
+    ensures counted { IfOk result (λ v. length v.items ≡ sizes.axioms) }
 {
-    let count = sizes.axioms as usize;
     let mut forms = rest;
-    let mut records = &rest[2 * count..];
-    let blank = Line {
-        form: 0,
-        p: 0,
-        q: 0,
-        r: 0,
-        s: 0,
-    };
-    let mut lines = [blank; MOST];
-    let mut axioms = [Axiom::OpenRole(Role { number: 0 }); MOST];
-    for k in 0..count {
+    let mut records = &rest[2 * sizes.axioms as usize..];
+    let mut lines: ArrayVec<Line, MOST> = ArrayVec::new();
+    let mut axioms = ArrayVec::new();
+    for place in 0..sizes.axioms as u8 {
         let (form, later_forms) = split_form(forms);
         let (line, later_records) = split_record(form, records);
-        let axiom = read_line(sizes, &lines[0..k], k as u8, line)?;
-        lines[k] = line;
-        axioms[k] = axiom;
+        axioms.push(read_line(sizes, lines.as_slice(), place, line)?);
+        lines.push(line);
         forms = later_forms;
         records = later_records;
     }

@@ -1,73 +1,76 @@
-ghost use Rattle.std.specs.Prelude.{◌≡◌, ◌<◌, true};
-ghost use Rattle.theory.specs.Lists.{any_of, all_of};
-ghost use Rattle.theory.specs.Roles.{spoils, is_simple, endangers};
-ghost use Rattle.theory.specs.WellFormed.{declares};
-ghost use Rattle.layout.specs.Meaning.{axiom_in, table_of};
+ghost use Rattle.std.specs.Prelude.{◌≡◌, ◌&&◌, nat_lt};
+ghost use Rattle.theory.specs.Lists.{any_of};
+ghost use Rattle.theory.specs.Roles.{spoils, is_simple, endangers, has_unsafe};
+ghost use Rattle.layout.specs.Meaning.{axiom_in};
+ghost use Rattle.table.specs.Meaning.{table_in};
 
 use crate::expression::Expression;
-use crate::inclusions::is_included;
+use crate::stated::Stated;
 use layout::axiom::Axiom;
-use layout::sizes::Sizes;
-use names::Role;
+use names::{Concept, Role};
 
-/// Whether the axiom makes a role transitive that is included, one way or the other, in this one.
-fn spoiled_by(sizes: Sizes, axioms: &[Axiom], role: Role, axiom: Axiom) -> bool
-    requires { declares (table_of sizes axioms.now) (axiom_in «axiom») ≡ true }
-    ensures { result ≡ spoils (table_of sizes axioms.now) role.number (axiom_in «axiom») }
-{
-    match axiom {
-        Axiom::Transitive(p) => {
-            is_included(sizes, axioms, Expression::Plain(p), Expression::Plain(role))
-                || is_included(
-                    sizes,
-                    axioms,
-                    Expression::Inverse(p),
-                    Expression::Plain(role),
-                )
-        }
-        _ => false,
-    }
-}
-
-/// Whether no transitive role is included in this one.
-pub(crate) fn is_simple(sizes: Sizes, axioms: &[Axiom], role: Role) -> bool
-    requires { all_of (declares (table_of sizes axioms.now)) (table_of sizes axioms.now).axioms ≡ true }
-    ensures { result ≡ is_simple (table_of sizes axioms.now) role.number }
-{
-    for axiom in axioms {
-        if spoiled_by(sizes, axioms, role, *axiom) {
-            return false;
+impl<'a> Stated<'a> {
+    /// Whether the axiom makes a role transitive that is included, one way or the other, in this one.
+    fn spoils(&self, role: Role, axiom: Axiom) -> bool
+        ensures { result ≡ spoils (table_in self.now) role.number (axiom_in «axiom») }
+    {
+        let own = Expression::Plain(role);
+        match axiom {
+            Axiom::Transitive(p) => {
+                self.includes(Expression::Plain(p), own)
+                    || self.includes(Expression::Inverse(p), own)
+            }
+            _ => false,
         }
     }
-    true
-}
 
-/// Whether the axiom makes witnesses by this role unsafe.
-fn endangered_by(sizes: Sizes, axioms: &[Axiom], role: Role, axiom: Axiom) -> bool
-    requires { role.number < sizes.roles }
-    ensures { result ≡ endangers (table_of sizes axioms.now) role.number (axiom_in «axiom») }
-{
-    let own = Expression::Plain(role);
-    match axiom {
-        Axiom::AtMostOne(_, s, _) => {
-            is_included(sizes, axioms, own, Expression::Plain(s))
-                || is_included(sizes, axioms, own, Expression::Inverse(s))
-        }
-        Axiom::Filler(s, q, _) => q.number != 0
-            && is_included(sizes, axioms, own, Expression::Inverse(s)),
-        _ => false,
+    /// Whether no transitive role is included in this one.
+    pub(crate) fn is_simple(&self, role: Role) -> bool
+        ensures { result ≡ is_simple (table_in self.now) role.number }
+    {
+        !self.axioms.iter().any(|axiom| self.spoils(role, *axiom))
     }
-}
 
-/// Whether some axiom makes witnesses by this role unsafe.
-pub(crate) fn is_unsafe_role(sizes: Sizes, axioms: &[Axiom], role: Role) -> bool
-    requires { role.number < sizes.roles }
-    ensures { result ≡ any_of (endangers (table_of sizes axioms.now) role.number) (table_of sizes axioms.now).axioms }
-{
-    for axiom in axioms {
-        if endangered_by(sizes, axioms, role, *axiom) {
-            return true;
+    /// Whether the word is the number of a simple role.
+    pub(crate) fn numbers_simple(&self, word: u16) -> bool
+        ensures { result ≡ (nat_lt word self.now.sizes.roles && is_simple (table_in self.now) word) }
+    {
+        match self.sizes.role(word) {
+            Some(role) => self.is_simple(role),
+            None => false,
         }
     }
-    false
+
+    /// Whether the axiom makes witnesses by this role unsafe.
+    fn endangers(&self, role: Role, axiom: Axiom) -> bool
+        ensures { result ≡ endangers (table_in self.now) role.number (axiom_in «axiom») }
+    {
+        let own = Expression::Plain(role);
+        match axiom {
+            Axiom::AtMostOne(_, s, _) => {
+                self.includes(own, Expression::Plain(s))
+                    || self.includes(own, Expression::Inverse(s))
+            }
+            Axiom::Filler(s, q, _) => q != Concept::TOP
+                && self.includes(own, Expression::Inverse(s)),
+            _ => false,
+        }
+    }
+
+    /// Whether some axiom makes witnesses by this role unsafe.
+    fn is_unsafe_role(&self, role: Role) -> bool
+        ensures { result ≡ any_of (endangers (table_in self.now) role.number) (table_in self.now).axioms }
+    {
+        self.axioms.iter().any(|axiom| self.endangers(role, *axiom))
+    }
+
+    /// Whether the axiom asks for a witness by an unsafe role.
+    pub(crate) fn has_unsafe(&self, axiom: Axiom) -> bool
+        ensures { result ≡ has_unsafe (table_in self.now) (axiom_in «axiom») }
+    {
+        match axiom {
+            Axiom::Exists(_, role, _) => self.is_unsafe_role(role),
+            _ => false,
+        }
+    }
 }

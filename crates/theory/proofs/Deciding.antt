@@ -1,11 +1,12 @@
 -- The tests that compute tell the truth.
-use Rattle.std.proofs.Common.{◌≡◌, ℕ, ◌+◌, ◌<◌, true, not, ◌&&◌, ◌||◌, eqb, ltb, Some, None, Decides, Option, sym, refl, ap, ◌∙◌, subst, ⊎_elim, arith, ltb-true}
+use Rattle.std.proofs.Common.{◌≡◌, ℕ, zero, suc, ◌+◌, ◌-◌, ◌<◌, ◌≤◌, true, not, ◌&&◌, ◌||◌, eqb, ltb, Some, None, Decides, Option, sym, refl, ap, ◌∙◌, subst, ⊎_elim, arith, ltb-true}
 use mathlib.Core.List.Memᴰ
 use Rattle.std.specs.List.{slice_get}
-use Rattle.std.proofs.lemmas.Bool.{both_ways, or_cases, or_left, or_right, and_parts, and_from, cond-true, cond-false}
+use Rattle.std.proofs.lemmas.Bool.{both_ways, cases_lt, eq-eqb, eqb-true, or_cases, or_left, or_right, and_parts, and_from, cond-true, cond-false}
 use Rattle.std.proofs.lemmas.Bool.Decides.{nat_tests, Decides-eqb, Decides-and, Decides-not, Decides-like}
 use Rattle.graph.specs.Digraph.{Step, Leads, stay, step}
-use Rattle.graph.proofs.Computing.{reach_computes}
+use Rattle.graph.proofs.Computing.{some_of, reach_computes}
+use Rattle.graph.specs.Reached.{reached_in, reached}
 use Rattle.theory.specs.Lists.{◌∈◌, any_of}
 use Rattle.theory.specs.Table.{Axiom, Table, transitive, filler, at_most_one, exists}
 use Rattle.theory.specs.Roles.{Expression, plain, inverse, name_of, Inclusion, within, inclusions, Included, same, more, Simple, UnsafeRole, counted, counted_back, filled, Unsafe, same_expression, is_inclusion, node_of, expression_at, includes_by, inclusion_graph, included, spoils, is_simple, endangers, unsafe_in, is_unsafe}
@@ -144,3 +145,39 @@ module _ (t : Table) (declared : Declared t) where
     λ (p, r, c, at, u).
         ap (unsafe_in t) at ∙ (unsafe_role_decides t declared r (exists_declared t declared p r c (nth_in t.axioms k (exists p r c) at))).1 u,
   )
+
+-- the same of any two nodes, where no axiom speaks of a number that is no node
+module _ (t : Table) (declared : Declared t) where
+  no_edge : (a b : ℕ) → t.roles + t.roles ≤ a → (inclusion_graph t).edge a b ≡ true → ⊥
+  no_edge a b h e =
+      let (x, m, q) = (any_of_decides (includes_by (expression_at t a) (expression_at t b)) t.axioms).0 e in
+      let (low, _) = inclusion_names t x (expression_at t a) (expression_at t b) (declared x m) ((includes_by_decides (expression_at t a) (expression_at t b) x).0 q) in
+      let at : expression_at t a ≡ inverse (a - t.roles) = cond-false (ltb a t.roles) _ _ (grind (arith, nat_tests)) in
+      let name = ap name_of at in
+      omega arith
+
+  stays : (a b : ℕ) → t.roles + t.roles ≤ a → Leads (inclusion_graph t) a b → a ≡ b
+  stays a b h stay = refl
+  stays a b h (step s rest) = absurd (omega (arith, s.from))
+
+  reached_same : (k a b : ℕ) → t.roles + t.roles ≤ a → reached_in (inclusion_graph t) k a b ≡ true → a ≡ b
+  reached_same zero a b h e = eqb-true a b e
+  reached_same (suc k) a b h e =
+      ⊎_elim (λ q. eqb-true a b q)
+      (λ q.
+      let (y, i, r) = (some_of (λ y. (inclusion_graph t).edge a y && reached_in (inclusion_graph t) k y b) (t.roles + t.roles)).0 q in
+      absurd (no_edge a y h (and_parts ((inclusion_graph t).edge a y) (reached_in (inclusion_graph t) k y b) r).0))
+      (or_cases (eqb a b) _ e)
+
+  reached_self : (k a : ℕ) → reached_in (inclusion_graph t) k a a ≡ true
+  reached_self zero a = eq-eqb a a refl
+  reached_self (suc k) a = or_left _ _ (eq-eqb a a refl)
+
+  pub included_computes : (a b : ℕ) → Decides (reached (inclusion_graph t) a b) (Leads (inclusion_graph t) a b)
+  included_computes a b = ⊎_elim (reach_computes (inclusion_graph t) a b) past (cases_lt a (t.roles + t.roles))
+    where
+      past : t.roles + t.roles ≤ a → Decides (reached (inclusion_graph t) a b) (Leads (inclusion_graph t) a b)
+      past h = (
+        λ e. subst (λ x. Leads (inclusion_graph t) a x) (reached_same (t.roles + t.roles) a b h e) stay,
+        λ p. subst (λ x. reached (inclusion_graph t) a x ≡ true) (stays a b h p) (reached_self (t.roles + t.roles) a),
+      )

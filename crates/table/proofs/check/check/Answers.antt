@@ -1,4 +1,4 @@
-use Rattle.std.proofs.Common.{◌≡◌, ◌-◌, length, ap, ◌∙◌, arith, length-take}
+use Rattle.std.proofs.Common.{length, ap, ◌∙◌}
 use Rattle.std.proofs.lemmas.Result.{err_from_is_err_and}
 use Rattle.theory.proofs.Accepting.{well_formed_decides}
 use Rattle.layout.proofs.Passing.{accepted_well_formed}
@@ -19,45 +19,34 @@ pub returns-in_err-axioms : goal.returns-in_err-axioms
 returns-in_err-axioms c =
     let p = err_from_is_err_and c.from_residual-in_err-axioms.result c.from_residual-in_err-axioms.ensures.1 in
     record {
-      says = rw (p.1, p.2) (line_refused c.args.bytes.now _ c.in_ok-sizes.sizes (rest_all 8 c.args.bytes.now) c.in_ok-sizes.ensures _ c.in_err-axioms.ensures);
+      says = rw (p.1, p.2) (line_refused c.args.bytes.now _ c.in_ok-sizes.sizes (rest_all 8 c.args.bytes.now) c.in_ok-sizes.ensures _ c.in_err-axioms.ensures.read);
       inverse = reading_inverts_writing;
     }
+
+pub invariant_of-stated : goal.invariant_of-stated
+invariant_of-stated c = record {
+  counted = ap length c.as_slice.ensures.value ∙ c.in_ok-axioms.ensures.counted;
+  declared = all_declared c.args.bytes.now _ c.in_ok-sizes.sizes (rest_all 8 c.args.bytes.now) c.in_ok-sizes.ensures c.in_ok-axioms.axioms c.in_ok-axioms.ensures.counted c.in_ok-axioms.ensures.read c.as_slice.result.now c.as_slice.ensures.value;
+}
 
 pub returns-in_err-few_witnesses : goal.returns-in_err-few_witnesses
 returns-in_err-few_witnesses c =
     let p = err_from_is_err_and c.from_residual-in_err-few_witnesses.result c.from_residual-in_err-few_witnesses.ensures.1 in
-    let h : length c.in_ok-axioms.axioms ≡ 64 = omega arith in
-    record {
-      says = rw (p.1, p.2) (witness_refused c.args.bytes.now _ c.in_ok-sizes.sizes (rest_all 8 c.args.bytes.now) c.in_ok-sizes.ensures c.in_ok-axioms.axioms h c.in_ok-axioms.ensures _ c.in_err-few_witnesses.ensures);
-      inverse = reading_inverts_writing;
-    }
-
-pub simple_counts-requires : goal.simple_counts-requires
-simple_counts-requires c =
-    let h : length c.in_ok-axioms.axioms ≡ 64 = omega arith in
-    record {
-      few = omega (arith, length-take (c.in_ok-sizes.sizes.axioms - 0) c.in_ok-axioms.axioms);
-      declared = all_declared c.args.bytes.now _ c.in_ok-sizes.sizes (rest_all 8 c.args.bytes.now) c.in_ok-sizes.ensures c.in_ok-axioms.axioms h c.in_ok-axioms.ensures;
-    }
+    record { says = rw (p.1, p.2) (witness_refused c.args.bytes.now _ c.in_ok-sizes.sizes (rest_all 8 c.args.bytes.now) c.in_ok-sizes.ensures c.in_ok-axioms.axioms c.in_ok-axioms.ensures.counted c.in_ok-axioms.ensures.read c.as_slice.result.now c.as_slice.ensures.value _ c.in_err-few_witnesses.ensures); inverse = reading_inverts_writing }
 
 pub returns-in_err-simple_counts : goal.returns-in_err-simple_counts
 returns-in_err-simple_counts c =
     let p = err_from_is_err_and c.from_residual-in_err-simple_counts.result c.from_residual-in_err-simple_counts.ensures.1 in
-    let h : length c.in_ok-axioms.axioms ≡ 64 = omega arith in
     record {
-      says = rw (p.1, p.2) (count_refused c.args.bytes.now _ c.in_ok-sizes.sizes (rest_all 8 c.args.bytes.now) c.in_ok-sizes.ensures c.in_ok-axioms.axioms h c.in_ok-axioms.ensures c.in_ok-few_witnesses.ensures _ c.in_err-simple_counts.ensures);
+      says = rw (p.1, p.2) (count_refused c.args.bytes.now _ c.in_ok-sizes.sizes (rest_all 8 c.args.bytes.now) c.in_ok-sizes.ensures c.in_ok-axioms.axioms c.in_ok-axioms.ensures.counted c.in_ok-axioms.ensures.read c.as_slice.result.now c.as_slice.ensures.value c.in_ok-few_witnesses.ensures _ c.in_err-simple_counts.ensures);
       inverse = reading_inverts_writing;
     }
 
 pub invariant_of-result : goal.invariant_of-result
-invariant_of-result c =
-    let h : length c.in_ok-axioms.axioms ≡ 64 = omega arith in
-    record { sound = (well_formed_decides _).1 (accepted_well_formed c.args.bytes.now _ (all_passed c.args.bytes.now _ c.in_ok-sizes.sizes (rest_all 8 c.args.bytes.now) c.in_ok-sizes.ensures c.in_ok-axioms.axioms h c.in_ok-axioms.ensures c.in_ok-few_witnesses.ensures c.in_ok-simple_counts.ensures)) }
+invariant_of-result c = record {
+  counted = c.in_ok-axioms.ensures.counted;
+  sound = (well_formed_decides _).1 (accepted_well_formed c.args.bytes.now _ (all_passed c.args.bytes.now _ c.in_ok-sizes.sizes (rest_all 8 c.args.bytes.now) c.in_ok-sizes.ensures c.in_ok-axioms.axioms c.in_ok-axioms.ensures.counted c.in_ok-axioms.ensures.read c.as_slice.result.now c.as_slice.ensures.value c.in_ok-few_witnesses.ensures c.in_ok-simple_counts.ensures));
+}
 
 pub returns : goal.returns
-returns c =
-    let h : length c.in_ok-axioms.axioms ≡ 64 = omega arith in
-    record {
-      says = all_passed c.args.bytes.now _ c.in_ok-sizes.sizes (rest_all 8 c.args.bytes.now) c.in_ok-sizes.ensures c.in_ok-axioms.axioms h c.in_ok-axioms.ensures c.in_ok-few_witnesses.ensures c.in_ok-simple_counts.ensures;
-      inverse = reading_inverts_writing;
-    }
+returns c = record { says = all_passed c.args.bytes.now _ c.in_ok-sizes.sizes (rest_all 8 c.args.bytes.now) c.in_ok-sizes.ensures c.in_ok-axioms.axioms c.in_ok-axioms.ensures.counted c.in_ok-axioms.ensures.read c.as_slice.result.now c.as_slice.ensures.value c.in_ok-few_witnesses.ensures c.in_ok-simple_counts.ensures; inverse = reading_inverts_writing }

@@ -1,26 +1,16 @@
-use Rattle.std.proofs.Common.{sym, ap, ◌∙◌, arith}
-use Rattle.theory.specs.Lists.{up_from}
+use Rattle.std.proofs.Common.{ℕ, ◌&&◌, ltb, rules, tests, ap, ◌∙◌, arith}
+use Rattle.std.proofs.lemmas.Iterator.{YieldsList-from_range}
+use Rattle.std.proofs.lemmas.Iterator.Consumers.{YieldsList-at, YieldsList-from_filter, count_from_yields_List}
+use Rattle.theory.specs.Lists.{count_of}
 use Rattle.theory.specs.Roles.{is_simple}
-use Rattle.theory.proofs.Places.{length_up}
-use Rattle.layout.specs.Meaning.{table_of}
 use Rattle.table.specs.Answers.{meaning}
-use Rattle.table.proofs.Counting.{counted, passed_over, counted_all, up_at}
+use Rattle.table.proofs.Counting.{range_up, length_kept, count_below}
 use Rattle.table.proofs.checked.Checked.simple_roles.Goals as goal
-use Rattle.table.proofs.checked.Checked.simple_roles.Goals.{then-is_simple, else-is_simple}
-
-pub loop-number-preserved : goal.loop-number-preserved
-loop-number-preserved c =
-    let p = is_simple (meaning c.args.self.now) in
-    let n = c.args.self.now.sizes.roles in
-    let k = c.loop-number.number in
-    let at = up_at n k c.loop-number-test.true in
-    let is = sym (c.is_simple.ensures ∙ ap (λ l. is_simple (table_of c.args.self.now.sizes l) k) c.axioms.ensures.value) in
-    elim c.if-is_simple.branch [
-      | then-is_simple w ↦ (w.simple-is ∙ counted p (up_from 0 n) k c.loop-number.simple c.loop-number.invariant.0 k at (is ∙ w.if-is_simple.true), omega (arith, w.simple-is))
-      | else-is_simple w ↦ (w.simple-is ∙ passed_over p (up_from 0 n) k c.loop-number.simple c.loop-number.invariant.0 k at (is ∙ w.if-is_simple.false), omega (arith, w.simple-is))
-    ]
 
 pub returns : goal.returns
 returns c =
+    let t = meaning c.args.self.now in
     let n = c.args.self.now.sizes.roles in
-    counted_all (is_simple (meaning c.args.self.now)) (up_from 0 n) c.loop-number.number c.loop-number.simple c.loop-number.invariant.0 (omega (arith, length_up 0 n))
+    let test = λ (k : ℕ). ltb k n && is_simple t k in
+    count_from_yields_List c.filter.result _ c.count.ensures.ran (YieldsList-from_filter _ test (YieldsList-at c.filter.ensures.source (YieldsList-from_range 0 n n (cc) (omega arith))) c.filter.ensures.closure (λ x b q k. search (rules, tests, c.stated-stated.ensures)))
+    ∙ length_kept test _ ∙ ap (count_of test) (range_up 0 n) ∙ count_below (is_simple t) n

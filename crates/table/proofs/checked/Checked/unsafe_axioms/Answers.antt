@@ -1,29 +1,17 @@
-use Rattle.std.proofs.Common.{map, length, sym, ap, ◌∙◌, arith}
+use Rattle.std.proofs.Common.{length, rules, tests, ap, ◌∙◌, arith, sym}
 use lib.ListN.{length-map}
+use Rattle.std.proofs.lemmas.Iterator.{YieldsList-from_range}
+use Rattle.std.proofs.lemmas.Iterator.Consumers.{YieldsList-at, YieldsList-from_filter, count_from_yields_List}
 use Rattle.theory.specs.Lists.{count_of, up_from}
 use Rattle.theory.specs.Roles.{is_unsafe}
-use Rattle.theory.proofs.Places.{length_up}
 use Rattle.layout.specs.Meaning.{axiom_in}
 use Rattle.table.specs.Answers.{meaning}
-use Rattle.table.proofs.Counting.{counted, passed_over, counted_all, up_at}
+use Rattle.table.proofs.Counting.{range_up, length_kept}
 use Rattle.table.proofs.checked.Checked.unsafe_axioms.Goals as goal
-use Rattle.table.proofs.checked.Checked.unsafe_axioms.Goals.{then-is_unsafe, else-is_unsafe}
-
-pub loop-k-preserved : goal.loop-k-preserved
-loop-k-preserved c =
-    let p = is_unsafe (meaning c.args.self.now) in
-    let n = length c.axioms-k-end.result.now in
-    let k = c.loop-k.k in
-    let at = up_at n k c.loop-k-test.true in
-    let is = sym c.is_unsafe.ensures.computes in
-    elim c.if-is_unsafe.branch [
-      | then-is_unsafe w ↦ (w.count-is ∙ counted p (up_from 0 n) k c.loop-k.count c.loop-k.invariant.0 k at (is ∙ w.if-is_unsafe.true), omega (arith, w.count-is))
-      | else-is_unsafe w ↦ (w.count-is ∙ passed_over p (up_from 0 n) k c.loop-k.count c.loop-k.invariant.0 k at (is ∙ w.if-is_unsafe.false), omega (arith, w.count-is))
-    ]
 
 pub returns : goal.returns
 returns c =
     let p = is_unsafe (meaning c.args.self.now) in
-    let n = length c.axioms-k-end.result.now in
-    counted_all p (up_from 0 n) c.loop-k.k c.loop-k.count c.loop-k.invariant.0 (omega (arith, length_up 0 n))
-    ∙ ap (λ m. count_of p (up_from 0 m)) (sym (length-map c.axioms-k-end.result.now axiom_in) ∙ ap (λ l. length (map axiom_in l)) c.axioms-k-end.ensures.value)
+    let n = length c.args.self.now.axioms.items in
+    count_from_yields_List c.filter.result _ c.count.ensures.ran (YieldsList-from_filter _ p (YieldsList-at c.filter.ensures.source (YieldsList-from_range 0 n n (cc) (omega arith))) c.filter.ensures.closure (λ x b q k. search (rules, tests)))
+    ∙ length_kept p _ ∙ ap (count_of p) (range_up 0 n) ∙ ap (λ n. count_of p (up_from 0 n)) (sym (length-map c.args.self.now.axioms.items axiom_in))
