@@ -47,14 +47,13 @@ impl Refusal {
         ensures { result ≡ place_of self.now }
     {
         match self {
-            Refusal::TooShort => 0,
+            Refusal::TooShort | Refusal::WrongLength => 0,
             Refusal::SizeOutOfLimits(size) => *size as u8,
-            Refusal::WrongLength => 0,
-            Refusal::UnknownForm(axiom) => *axiom,
-            Refusal::BadArgument(axiom) => *axiom,
-            Refusal::Repeated(axiom) => *axiom,
-            Refusal::TooManyWitnesses(axiom) => *axiom,
-            Refusal::NotSimple(axiom) => *axiom,
+            Refusal::UnknownForm(axiom)
+            | Refusal::BadArgument(axiom)
+            | Refusal::Repeated(axiom)
+            | Refusal::TooManyWitnesses(axiom)
+            | Refusal::NotSimple(axiom) => *axiom,
         }
     }
 }

@@ -1,4 +1,3 @@
-use layout::refusal::Refusal;
 use std::alloc::{AllocError, Global};
 use table::check::check;
 
@@ -18,9 +17,7 @@ pub const LODGE: [Row; 7] = [
 
 /// One word, low byte first.
 fn put(bytes: &mut Vec<u8>, word: u16) -> Result<(), AllocError> {
-    bytes.push((word % 256) as u8)?;
-    bytes.push((word / 256) as u8)?;
-    Ok(())
+    bytes.extend_from_slice(&word.to_le_bytes())
 }
 
 /// The bytes of a table that may break every rule.
@@ -33,22 +30,17 @@ pub(crate) fn encoded(heap: Global, sizes: [u16; 4], rows: &[Row]) -> Result<Vec
         put(&mut bytes, row[0])?;
     }
     for row in rows {
-        put(&mut bytes, row[1])?;
-        put(&mut bytes, row[2])?;
-        put(&mut bytes, row[3])?;
-        put(&mut bytes, row[4])?;
+        for word in &row[1..] {
+            put(&mut bytes, *word)?;
+        }
     }
     Ok(bytes)
 }
 
-/// Number and place of the refusal, or two zeros.
-pub(crate) fn answer(bytes: &[u8]) -> (u8, u8) {
+/// Number and place of the refusal, if there is one.
+pub(crate) fn answer(bytes: &[u8]) -> Option<(u8, u8)> {
     match check(bytes) {
-        Ok(_) => (0, 0),
-        Err(refusal) => told(refusal),
+        Ok(_) => None,
+        Err(refusal) => Some((refusal.number(), refusal.place())),
     }
-}
-
-fn told(refusal: Refusal) -> (u8, u8) {
-    (refusal.number(), refusal.place())
 }

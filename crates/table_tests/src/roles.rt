@@ -13,20 +13,16 @@ fn counts(
     due: (usize, usize, usize),
 ) -> Result<(), Fail> {
     let bytes = encoded(heap, sizes, rows)?;
-    match checked(bytes.as_slice()) {
-        Ok(table) => {
-            let counted = (
-                table.simple_roles(),
-                table.witness_axioms(),
-                table.unsafe_axioms(),
-            );
-            if counted == due {
-                Ok(())
-            } else {
-                Err(Fail::new("other counts"))
-            }
-        }
-        Err(_) => Err(Fail::new("refused")),
+    let table = checked(bytes.as_slice()).map_err(|_| Fail::new("refused"))?;
+    let counted = (
+        table.simple_roles(),
+        table.witness_axioms(),
+        table.unsafe_axioms(),
+    );
+    if counted == due {
+        Ok(())
+    } else {
+        Err(Fail::new("other counts"))
     }
 }
 
@@ -34,15 +30,11 @@ fn counts(
 fn the_lodge_table_has_one_unsafe_axiom(rt: HostRuntime) -> Result<(), Fail> {
     counts(rt.alloc(), [7, 2, 2, 7], &LODGE, (2, 1, 1))?;
     let bytes = encoded(rt.alloc(), [7, 2, 2, 7], &LODGE)?;
-    match checked(bytes.as_slice()) {
-        Ok(table) => {
-            assert!(rt; table.is_unsafe(1));
-            assert!(rt; !table.is_unsafe(0));
-            assert!(rt; !table.is_unsafe(7));
-            Ok(())
-        }
-        Err(_) => Err(Fail::new("refused")),
-    }
+    let table = checked(bytes.as_slice()).map_err(|_| Fail::new("refused"))?;
+    assert!(rt; table.is_unsafe(1));
+    assert!(rt; !table.is_unsafe(0));
+    assert!(rt; !table.is_unsafe(7));
+    Ok(())
 }
 
 #[test]
@@ -100,24 +92,20 @@ fn inclusions_hold_of_inverses_too(rt: HostRuntime) -> Result<(), Fail> {
         [2, 3, 1, 2],
         &[[1, 0, 1, 0, 0], [2, 1, 2, 0, 0]],
     )?;
-    match checked(bytes.as_slice()) {
-        Ok(table) => {
-            let first = Role { number: 0 };
-            let second = Role { number: 1 };
-            let third = Role { number: 2 };
-            assert!(rt; table.includes(Expression::Plain(first), Expression::Inverse(third)));
-            assert!(rt; table.includes(Expression::Inverse(first), Expression::Plain(third)));
-            assert!(rt; table.includes(Expression::Inverse(first), Expression::Inverse(second)));
-            assert!(rt; !table.includes(Expression::Plain(first), Expression::Plain(third)));
-            assert!(rt; !table.includes(Expression::Plain(second), Expression::Plain(first)));
-            assert!(rt;
-                table.includes(
-                    Expression::Plain(Role { number: 5 }),
-                    Expression::Plain(Role { number: 5 }),
-                )
-            );
-            Ok(())
-        }
-        Err(_) => Err(Fail::new("refused")),
-    }
+    let table = checked(bytes.as_slice()).map_err(|_| Fail::new("refused"))?;
+    let first = Role { number: 0 };
+    let second = Role { number: 1 };
+    let third = Role { number: 2 };
+    assert!(rt; table.includes(Expression::Plain(first), Expression::Inverse(third)));
+    assert!(rt; table.includes(Expression::Inverse(first), Expression::Plain(third)));
+    assert!(rt; table.includes(Expression::Inverse(first), Expression::Inverse(second)));
+    assert!(rt; !table.includes(Expression::Plain(first), Expression::Plain(third)));
+    assert!(rt; !table.includes(Expression::Plain(second), Expression::Plain(first)));
+    assert!(rt;
+        table.includes(
+            Expression::Plain(Role { number: 5 }),
+            Expression::Plain(Role { number: 5 }),
+        )
+    );
+    Ok(())
 }

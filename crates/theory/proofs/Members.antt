@@ -1,5 +1,5 @@
 -- Tests of each element of a list.
-use Rattle.std.proofs.Common.{◌≡◌, ℕ, zero, suc, ◌<◌, Bool, true, List, [], ◌∷◌, map, length, get_or, Decides, sym, refl, ap, ◌∙◌, ⊎_elim, le_of_suc-le-suc, arith}
+use Rattle.std.proofs.Common.{◌≡◌, Bool, true, List, [], ◌∷◌, Decides, sym, refl, ap, ◌∙◌, ⊎_elim}
 use mathlib.Core.List.Memᴰ
 use Rattle.std.proofs.lemmas.Bool.{both_ways, or_cases, or_left, or_right, and_parts, and_from}
 use Rattle.theory.specs.Lists.{◌∈◌, any_of, all_of}
@@ -29,9 +29,3 @@ all_of_decides p (b ∷ l) =
     each : (a : _) → a ∈ (b ∷ l) → p b ≡ true → ((a : _) → a ∈ l → p a ≡ true) → p a ≡ true
     each a (Memᴰ.head e) u below = ap p e ∙ u
     each a (Memᴰ.tail m) u below = below a m
-
--- what passes at each element passes at the i-th
-pub all_at : {A B : Type 0} (p : B → Bool) (f : A → B) (xs : List A) (i : ℕ) (x : A) → i < length xs → x ≡ get_or xs i x → all_of p (map f xs) ≡ true → p (f x) ≡ true
-all_at p f [] i x h e all = absurd (omega arith)
-all_at p f (y ∷ xs) zero x h e all = ap (λ z. p (f z)) e ∙ (and_parts (p (f y)) (all_of p (map f xs)) all).0
-all_at p f (y ∷ xs) (suc i) x h e all = all_at p f xs i x (le_of_suc-le-suc h) e (and_parts (p (f y)) (all_of p (map f xs)) all).1
