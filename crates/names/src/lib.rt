@@ -8,6 +8,8 @@ pub mod words;
 
 use std::fmt::{Display, Formatter, Result, Write};
 
+// Four structs and not one with a limit as its parameter: what may not mix stays apart even where limits agree.
+
 /// The number of a concept, 0 to 32: 0 is ⊤, 1 is ⊥, and 32 is U, which no table declares.
 #[derive(Clone, Copy, PartialEq, Eq, Debug)]
 pub struct Concept {

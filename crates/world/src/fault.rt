@@ -6,7 +6,7 @@ ghost use Rattle.world.specs.Faults.{placed};
 use ledger::Full;
 
 /// What a refused trial lacks: a term beyond the 48th, or rows, with the ledger's fault.
-#[derive(Clone, Copy)]
+#[derive(Clone, Copy, PartialEq, Eq, Debug)]
 pub enum Lacking {
     Terms,
     Rows(Full),
@@ -21,7 +21,7 @@ impl From<Full> for Lacking {
 }
 
 /// An error with the place where it came about.
-#[derive(Clone, Copy)]
+#[derive(Clone, Copy, PartialEq, Eq, Debug)]
 pub struct In<E, P> {
     pub error: E,
     pub place: P,
