@@ -6,4 +6,4 @@ mod judging;
 mod place;
 
 pub use crate::finding::{Finding, Overfull};
-pub use crate::judging::{desk_for, judge};
+pub use crate::judging::{bench, judge};
