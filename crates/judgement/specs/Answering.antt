@@ -1,5 +1,5 @@
 -- What becomes of the bytes of a table, and of the ledger.
-use Rattle.std.specs.Prelude.{◌≡◌, ℕ, List, []}
+use Rattle.std.specs.Prelude.{◌≡◌, ℕ, List, [], Ok, Err, Result}
 use Rattle.theory.specs.Table.{Table}
 use Rattle.chase.specs.Judging.{JudgingRefused}
 use Rattle.chase.specs.Trials.{Entry, State}
@@ -7,19 +7,20 @@ use Rattle.layout.specs.Checking.{Outcome, accepted, refused}
 use Rattle.table.specs.Answers.{meaning}
 use Rattle.verdict.specs.Verdicts.{VerdictOf}
 use Rattle.judging.specs.Judgings.{JudgesIn, OverfullIn, place_of}
-use Rattle.judgement.specs.declared.judgement.Judgement.{Judgement}
-use Rattle.judgement.specs.declared.judgement.Judgement.TheVariants.{Found, Refused, Overfull}
+use Rattle.judgement.specs.declared.judgement.Found.{Found}
+use Rattle.judgement.specs.declared.judgement.Unjudged.{Unjudged}
+use Rattle.judgement.specs.declared.judgement.Unjudged.TheVariants.{Refused, Overfull}
 
 -- The table is judged and the entries are all derivable facts, or judging needs more rows and there are none.
-abbrev pub JudgedAs : Table → ℕ → Judgement → List Entry → Type 0
-JudgedAs t rows (Found j p) es = (meaning j.table ≡ t) × VerdictOf t j.verdict × ((s : State) × JudgesIn t rows s p × (es ≡ s.entries))
-JudgedAs t rows (Refused f) es = ⊥
-JudgedAs t rows (Overfull k o) es = (meaning k ≡ t) × OverfullIn t rows o × JudgingRefused t rows (place_of o) × (es ≡ [])
+abbrev pub JudgedAs : Table → ℕ → Result Found Unjudged → List Entry → Type 0
+JudgedAs t rows (Ok f) es = (meaning f.judged.table ≡ t) × VerdictOf t f.judged.verdict × ((s : State) × JudgesIn t rows s f.done × (es ≡ s.entries))
+JudgedAs t rows (Err (Refused f)) es = ⊥
+JudgedAs t rows (Err (Overfull k o)) es = (meaning k ≡ t) × OverfullIn t rows o × JudgingRefused t rows (place_of o) × (es ≡ [])
 
 -- what is refused by checking stays refused
-abbrev pub Says : Outcome → ℕ → Judgement → List Entry → Type 0
-Says (accepted t) rows j es = JudgedAs t rows j es
-Says (refused f) rows j es = j ≡ Refused f
+abbrev pub Says : Outcome → ℕ → Result Found Unjudged → List Entry → Type 0
+Says (accepted t) rows r es = JudgedAs t rows r es
+Says (refused f) rows r es = r ≡ Err (Refused f)
 
 -- Judging leaves the ledger ready for use, and a refusal by checking leaves it as it was.
 abbrev pub Leaves : {L : Type 0} → Outcome → (L → Type 0) → L → L → Type 0

@@ -1,33 +1,23 @@
 -- The line that says what became of a table, byte by byte.
-use Rattle.std.specs.Prelude.{ℕ, List, [], ◌∷◌, ◌++◌, codes, decimal}
-use Rattle.layout.specs.Refusals as table
-use Rattle.judging.specs.Judgings.{place_of}
-use Rattle.shapes.specs.declared.shape.Shape.{Shape}
-use Rattle.shapes.specs.declared.shape.Shape.TheVariants.{Forest, Acyclic, Cyclic}
+use Rattle.std.specs.Prelude.{ℕ, List, [], ◌∷◌, ◌++◌, Ok, Err, Result}
+use Rattle.layout.specs.Refusals.{refusal_text}
+use Rattle.judging.specs.Refusals.{overfull_text}
+use Rattle.verdict.specs.Lines.{verdict_text}
+use Rattle.judgement.specs.declared.judgement.Found.{Found}
 use Rattle.judgement.specs.declared.judgement.Judgement.{Judgement}
-use Rattle.judgement.specs.declared.judgement.Judgement.TheVariants.{Found, Refused, Overfull}
-use Rattle.verdict.specs.declared.verdict.Verdict.{Verdict}
+use Rattle.judgement.specs.declared.judgement.Unjudged.{Unjudged}
+use Rattle.judgement.specs.declared.judgement.Unjudged.TheVariants.{Refused, Overfull}
 
 abbrev pub newline : List ℕ
 newline = 10 ∷ []
 
-abbrev pub shape_text : Shape → List ℕ
-shape_text Forest = codes "forest"
-shape_text Acyclic = codes "acyclic"
-shape_text Cyclic = codes "cyclic"
+abbrev pub unjudged_text : Unjudged → List ℕ
+unjudged_text (Refused f) = refusal_text f
+unjudged_text (Overfull k o) = overfull_text o
 
-abbrev pub verdict_text : Verdict → List ℕ
-verdict_text v = shape_text v.shape ++ (codes " h=" ++ (decimal v.height ++ (codes " u=" ++ (decimal v.unsafe_axioms ++ newline))))
-
--- refused N at P
-abbrev pub refused_text : ℕ → ℕ → List ℕ
-refused_text n p = codes "refused " ++ (decimal n ++ (codes " at " ++ (decimal p ++ newline)))
-
--- the number of the refusal for want of rows
-abbrev pub overfull : ℕ
-overfull = 9
+abbrev pub outcome_text : Result Found Unjudged → List ℕ
+outcome_text (Ok f) = verdict_text f.judged.verdict
+outcome_text (Err u) = unjudged_text u
 
 abbrev pub judgement_text : Judgement → List ℕ
-judgement_text (Found j p) = verdict_text j.verdict
-judgement_text (Refused f) = refused_text (table.number_of f) (table.place_of f)
-judgement_text (Overfull k o) = refused_text overfull (place_of o)
+judgement_text j = outcome_text j.0 ++ newline

@@ -11,7 +11,7 @@ use Rattle.judgement.specs.Lines.{newline, judgement_text}
 
 -- Whatever is said of the table's bytes with 4,096 rows, the line is this.
 abbrev pub LineIs : Table → List ℕ → Type 0
-LineIs t line = (j : Judgement) (es : List Entry) → Says (checked (encode t)) 4096 j es → judgement_text j ≡ line ++ newline
+LineIs t line = (j : Judgement) (es : List Entry) → Says (checked (encode t)) 4096 j.0 es → judgement_text j ≡ line ++ newline
 
 pub record MarkedLines : Type 0 where
   pub lodge_long : length (encode tables.lodge) ≡ 78

@@ -3,11 +3,11 @@
 
 mod answer;
 mod judgement;
-mod judging;
 mod laws;
+mod telling;
 mod text;
 
 pub use crate::answer::Answer;
-pub use crate::judgement::Judgement;
-pub use crate::judging::judge_table;
+pub use crate::judgement::{Found, Judgement, Unjudged};
 pub use crate::laws::marked_lines;
+pub use crate::telling::judge_table;

@@ -1,52 +1,28 @@
 ghost use Rattle.std.specs.Prelude.{Some};
-ghost use Rattle.judgement.specs.Lines.{shape_text, judgement_text};
+ghost use Rattle.judgement.specs.Lines.{unjudged_text, judgement_text};
 
-use crate::judgement::Judgement;
-use shapes::shape::Shape;
+use crate::judgement::{Judgement, Unjudged};
 use std::fmt::{Display, Formatter, Result, Write};
-use verdict::Verdict;
 
-/// The number of the refusal for want of rows.
-const OVERFULL: u8 = 9;
-
-/// A shape by its name.
-#[derive(Drop)]
-struct ShapeName(Shape);
-
-impl Display for ShapeName {
-    ghost output = { λ s. Some (shape_text s.0) };
+impl Display for Unjudged {
+    ghost output = { λ u. Some (unjudged_text u) };
 
     fn fmt<W: Write>(&self, f: &mut Formatter<W>) -> Result {
-        match self.0 {
-            Shape::Forest => f.write_str("forest"),
-            Shape::Acyclic => f.write_str("acyclic"),
-            Shape::Cyclic => f.write_str("cyclic"),
+        match self {
+            Unjudged::Refused(refusal) => write!(f, "{refusal}"),
+            Unjudged::Overfull(_, overfull) => write!(f, "{overfull}"),
         }
     }
 }
 
+/// A line for what became of a table.
 impl Display for Judgement {
     ghost output = { λ j. Some (judgement_text j) };
 
     fn fmt<W: Write>(&self, f: &mut Formatter<W>) -> Result {
-        match self {
-            Judgement::Found(judged, _) => {
-                let Verdict {
-                    shape,
-                    height,
-                    unsafe_axioms,
-                } = judged.verdict();
-                writeln!(f, "{} h={height} u={unsafe_axioms}", ShapeName(shape))
-            }
-            Judgement::Refused(refusal) => {
-                let number = refusal.number();
-                let place = refusal.place();
-                writeln!(f, "refused {number} at {place}")
-            }
-            Judgement::Overfull(_, overfull) => {
-                let place = overfull.place();
-                writeln!(f, "refused {OVERFULL} at {place}")
-            }
+        match &self.0 {
+            Ok(found) => writeln!(f, "{}", found.judged.verdict()),
+            Err(unjudged) => writeln!(f, "{unjudged}"),
         }
     }
 }

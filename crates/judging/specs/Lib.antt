@@ -1,1 +1,2 @@
 pub mod Judgings
+pub mod Refusals

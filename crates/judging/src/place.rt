@@ -1,9 +1,18 @@
-ghost use Rattle.std.specs.Prelude.{◌≡◌};
+ghost use Rattle.std.specs.Prelude.{◌≡◌, Some};
 ghost use Rattle.judging.specs.Judgings.{place_of};
+ghost use Rattle.judging.specs.Refusals.{overfull, overfull_text};
 
 use crate::finding::Overfull;
+use std::fmt::{Display, Formatter, Result, Write};
 
 impl Overfull {
+    /// The number by which owners know the refusal, next after those of tables.
+    pub fn number(self) -> u8
+        ensures { result ≡ overfull }
+    {
+        9
+    }
+
     /// The place of the refusal: the rule that needs more rows, 0 before the first.
     pub fn place(self) -> u16
         ensures { result ≡ place_of self }
@@ -12,5 +21,15 @@ impl Overfull {
             Overfull::AtStart(_) => 0,
             Overfull::AtTrial(halted) => halted.fault.rule,
         }
+    }
+}
+
+impl Display for Overfull {
+    ghost output = { λ o. Some (overfull_text o) };
+
+    fn fmt<W: Write>(&self, f: &mut Formatter<W>) -> Result {
+        let number = self.number();
+        let place = self.place();
+        write!(f, "refused {number} at {place}")
     }
 }

@@ -4,6 +4,7 @@ pub mod Cycles
 pub mod Examples
 pub mod Heights
 pub mod Laws
+pub mod Naming
 pub mod Shapes
 pub mod Surveys
 pub mod Views

@@ -3,6 +3,7 @@
 
 mod height;
 pub mod laws;
+mod naming;
 pub mod rows;
 pub mod shape;
 pub mod survey;

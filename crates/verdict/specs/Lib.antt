@@ -1,3 +1,4 @@
+pub mod Lines
 pub mod Links
 pub mod Marked
 pub mod Verdicts

@@ -1,4 +1,8 @@
+ghost use Rattle.std.specs.Prelude.{Some};
+ghost use Rattle.verdict.specs.Lines.{verdict_text};
+
 use shapes::shape::Shape;
+use std::fmt::{Display, Formatter, Result, Write};
 
 /// What judging a table finds: the shape of its edges, the most unsafe witnesses on one path of them, and how many axioms are unsafe.
 #[derive(Clone, Copy, PartialEq, Eq, Debug)]
@@ -6,4 +10,17 @@ pub struct Verdict {
     pub shape: Shape,
     pub height: u8,
     pub unsafe_axioms: u8,
+}
+
+impl Display for Verdict {
+    ghost output = { λ v. Some (verdict_text v) };
+
+    fn fmt<W: Write>(&self, f: &mut Formatter<W>) -> Result {
+        let Verdict {
+            shape,
+            height,
+            unsafe_axioms,
+        } = *self;
+        write!(f, "{shape} h={height} u={unsafe_axioms}")
+    }
 }
