@@ -101,10 +101,8 @@ impl Checked {
     pub fn witness_axioms(&self) -> usize
         ensures { result ≡ count_of (has_form 8) (meaning self.now).axioms }
     {
-        self.axioms()
-            .iter()
-            .filter(|axiom| axiom.asks_witness())
-            .count()
+        let witnesses = self.axioms().iter().filter(|axiom| axiom.asks_witness());
+        witnesses.count()
     }
 
     /// How many of its axioms ask for a witness by an unsafe role.

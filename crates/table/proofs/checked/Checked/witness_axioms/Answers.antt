@@ -11,5 +11,5 @@ use Rattle.table.proofs.checked.Checked.witness_axioms.Goals as goal
 pub returns : goal.returns
 returns c =
     let xs = c.axioms.result.now in
-    count_from_yields_List c.filter.result _ c.count.ensures.ran (YieldsList-from_filter _ (λ a. has_form 8 (axiom_in a)) (YieldsList-at c.filter.ensures.source (YieldsList-from_slice xs cc)) c.filter.ensures.closure (λ x b q k. search (rules, tests)))
+    count_from_yields_List c.filter-witnesses.result _ c.count.ensures.ran (YieldsList-from_filter _ (λ a. has_form 8 (axiom_in a)) (YieldsList-at c.filter-witnesses.ensures.source (YieldsList-from_slice xs cc)) c.filter-witnesses.ensures.closure (λ x b q k. search (rules, tests)))
     ∙ length-filter (λ a. has_form 8 (axiom_in a)) xs ∙ count_mapped _ (has_form 8) axiom_in (λ a. refl) xs ∙ ap (count_of (has_form 8)) c.axioms.ensures.means
