@@ -1,6 +1,5 @@
 -- What is taken for the sizes of a table and for one of its lines.
-use Rattle.std.specs.Prelude.{◌≡◌, ℕ, Bool, true, false, cond, not, List, Some, None, Ok, Err, Option, Result, MatchOption, ◌==◌}
-use Rattle.std.specs.List.{list_all}
+use Rattle.std.specs.Prelude.{◌≡◌, ℕ, true, false, cond, not, List, Some, None, Ok, Err, Option, Result, MatchOption}
 use Rattle.theory.specs.Lists.{any_of}
 use Rattle.theory.specs.Table.{Table, Line, line, same_line, axiom_of}
 use Rattle.layout.specs.declared.axiom.Axiom.{Axiom}
@@ -30,10 +29,6 @@ line_refusal t earlier k l =
 abbrev pub LineTaken : Table → List Line → ℕ → Line → Result Axiom Refusal → Type 0
 LineTaken t earlier k l (Ok a) = (line_refusal t earlier k l ≡ None) × (axiom_of l ≡ Some (axiom_in a))
 LineTaken t earlier k l (Err f) = line_refusal t earlier k l ≡ Some f
-
--- the words are all 0
-abbrev pub are_unused : List ℕ → Bool
-are_unused ws = list_all (λ w. w == 0) ws
 
 -- the axiom that a line says, if its words fit its form
 abbrev pub LineSays : Table → Line → Option Axiom → Type 0

@@ -8,13 +8,13 @@ impl Sizes {
     pub fn new(concepts: u16, roles: u16, individuals: u16, axioms: u16) -> Result<Sizes, Refusal>
         ensures { SizesTaken concepts roles individuals axioms result }
     {
-        if concepts < 2 || concepts > 32 {
+        if !(2..=32).contains(&concepts) {
             return Err(Refusal::SizeOutOfLimits(Size::Concepts));
         }
         if roles > 7 {
             return Err(Refusal::SizeOutOfLimits(Size::Roles));
         }
-        if individuals < 1 || individuals > 16 {
+        if !(1..=16).contains(&individuals) {
             return Err(Refusal::SizeOutOfLimits(Size::Individuals));
         }
         if axioms > 64 {

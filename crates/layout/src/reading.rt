@@ -1,7 +1,7 @@
-ghost use Rattle.std.specs.Prelude.{◌≡◌, ◌<◌, true, false, [], map, MatchOption};
+ghost use Rattle.std.specs.Prelude.{[], map};
 ghost use Rattle.layout.specs.Meaning.{line_in, table_of};
 ghost use Rattle.layout.specs.Forms.{code_of};
-ghost use Rattle.layout.specs.Limits.{LineTaken, WordsSay, are_unused};
+ghost use Rattle.layout.specs.Limits.{LineTaken, WordsSay};
 
 use crate::axiom::Axiom;
 use crate::form::Form;
@@ -9,69 +9,38 @@ use crate::line::Line;
 use crate::refusal::Refusal;
 use crate::sizes::Sizes;
 
-/// Nothing, if the words are all 0.
-fn unused(words: &[u16]) -> Option<()>
-    ensures { MatchOption result (are_unused words.now ≡ false) (λ _. are_unused words.now ≡ true) }
-{
-    words.iter().all(|word| *word == 0).then_some(())
-}
-
 /// The axiom that a line says, if its arguments are declared and its other words are 0.
 fn axiom_of(sizes: Sizes, form: Form, line: Line) -> Option<Axiom>
     ensures { WordsSay (table_of sizes []) (code_of form) (line_in line) result }
 {
     let Line { p, q, r, s, .. } = line;
-    let axiom = match form {
-        Form::SubRole => {
-            unused(&[r, s])?;
-            Axiom::SubRole(sizes.role(p)?, sizes.role(q)?)
-        }
-        Form::SubInverse => {
-            unused(&[r, s])?;
-            Axiom::SubInverse(sizes.role(p)?, sizes.role(q)?)
-        }
-        Form::Transitive => {
-            unused(&[q, r, s])?;
-            Axiom::Transitive(sizes.role(p)?)
-        }
-        Form::Conjunction => Axiom::Conjunction(
+    let axiom = match (form, q, r, s) {
+        (Form::SubRole, _, 0, 0) => Axiom::SubRole(sizes.role(p)?, sizes.role(q)?),
+        (Form::SubInverse, _, 0, 0) => Axiom::SubInverse(sizes.role(p)?, sizes.role(q)?),
+        (Form::Transitive, 0, 0, 0) => Axiom::Transitive(sizes.role(p)?),
+        (Form::Conjunction, _, _, _) => Axiom::Conjunction(
             sizes.concept(p)?,
             sizes.concept(q)?,
             sizes.concept(r)?,
             sizes.concept(s)?,
         ),
-        Form::Nominal => {
-            unused(&[r, s])?;
-            Axiom::Nominal(sizes.concept(p)?, sizes.individual(q)?)
-        }
-        Form::Filler => {
-            unused(&[s])?;
+        (Form::Nominal, _, 0, 0) => Axiom::Nominal(sizes.concept(p)?, sizes.individual(q)?),
+        (Form::Filler, _, _, 0) => {
             Axiom::Filler(sizes.role(p)?, sizes.concept(q)?, sizes.concept(r)?)
         }
-        Form::AtMostOne => {
-            unused(&[s])?;
+        (Form::AtMostOne, _, _, 0) => {
             Axiom::AtMostOne(sizes.concept(p)?, sizes.role(q)?, sizes.concept(r)?)
         }
-        Form::Exists => {
-            unused(&[s])?;
+        (Form::Exists, _, _, 0) => {
             Axiom::Exists(sizes.concept(p)?, sizes.role(q)?, sizes.concept(r)?)
         }
-        Form::Range => {
-            unused(&[r, s])?;
-            Axiom::Range(sizes.role(p)?, sizes.concept(q)?)
-        }
-        Form::HasValue => {
-            unused(&[s])?;
+        (Form::Range, _, 0, 0) => Axiom::Range(sizes.role(p)?, sizes.concept(q)?),
+        (Form::HasValue, _, _, 0) => {
             Axiom::HasValue(sizes.concept(p)?, sizes.role(q)?, sizes.individual(r)?)
         }
-        Form::OpenConcept => {
-            unused(&[q, r, s])?;
-            Axiom::OpenConcept(sizes.concept(p)?)
-        }
-        Form::OpenRole => {
-            unused(&[q, r, s])?;
-            Axiom::OpenRole(sizes.role(p)?)
-        }
+        (Form::OpenConcept, 0, 0, 0) => Axiom::OpenConcept(sizes.concept(p)?),
+        (Form::OpenRole, 0, 0, 0) => Axiom::OpenRole(sizes.role(p)?),
+        _ => return None,
     };
     Some(axiom)
 }
