@@ -5,6 +5,8 @@ ghost use Rattle.inspection.specs.Notation.{axiom_text};
 use layout::axiom::Axiom;
 use std::fmt::{Display, Formatter, Result, Write};
 
+// A type of its own, and not `Display` for `Axiom`: the notation is this crate's.
+
 /// An axiom as a reader wants it.
 #[derive(Drop)]
 pub(crate) struct Shown(pub(crate) Axiom);

@@ -33,7 +33,7 @@ struct CountsLine<'a>(&'a Checked);
 #[derive(Drop)]
 pub(crate) struct Lines<'a>(pub(crate) &'a Checked);
 
-impl<'a> Display for SizesLine<'a> {
+impl Display for SizesLine<'_> {
     ghost output = { λ l. Some (sizes_text (meaning l.0.now)) };
 
     fn fmt<W: Write>(&self, f: &mut Formatter<W>) -> Result {
@@ -57,7 +57,7 @@ fn mark(is_unsafe: bool) -> &'static str
     if is_unsafe { " (unsafe)" } else { "" }
 }
 
-impl<'a> Display for AxiomLine<'a> {
+impl Display for AxiomLine<'_> {
     ghost output = { λ l. Some (axiom_line l.k (is_unsafe (meaning l.table.now) l.k) (axiom_in l.shown.0)) };
 
     fn fmt<W: Write>(&self, f: &mut Formatter<W>) -> Result {
@@ -67,7 +67,7 @@ impl<'a> Display for AxiomLine<'a> {
     }
 }
 
-impl<'a> Display for AxiomLines<'a> {
+impl Display for AxiomLines<'_> {
     ghost output = { λ l. Some (lines_text (meaning l.0.now)) };
 
     fn fmt<W: Write>(&self, f: &mut Formatter<W>) -> Result {
@@ -80,7 +80,7 @@ impl<'a> Display for AxiomLines<'a> {
     }
 }
 
-impl<'a> Display for CountsLine<'a> {
+impl Display for CountsLine<'_> {
     ghost output = { λ l. Some (counts_text (meaning l.0.now)) };
 
     fn fmt<W: Write>(&self, f: &mut Formatter<W>) -> Result {
@@ -96,7 +96,7 @@ impl<'a> Display for CountsLine<'a> {
     }
 }
 
-impl<'a> Display for Lines<'a> {
+impl Display for Lines<'_> {
     ghost output = { λ l. Some (table_text (meaning l.0.now)) };
 
     fn fmt<W: Write>(&self, f: &mut Formatter<W>) -> Result {

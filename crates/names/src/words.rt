@@ -6,6 +6,7 @@ use crate::{Concept, Individual, Role};
 #[derive(Clone, Copy, PartialEq, Eq, Debug)]
 pub struct OutOfRange;
 
+// Three impls and not one generic: one for every such type would meet the library's own, and a concept is no role.
 impl TryFrom<u16> for Concept {
     type Error = OutOfRange;
 

@@ -1,5 +1,6 @@
 -- What is known of a well-formed table.
-use Rattle.std.proofs.Common.{◌≡◌, ℕ, ◌<◌, ◌≤◌, Bool, true, false, ◌⊎◌, Decides, refl, ap, subst, inl, inr, ⊎_elim, arith}
+use Rattle.std.proofs.Common.{◌≡◌, ℕ, ◌<◌, ◌≤◌, Bool, true, false, ◌⊎◌, Decides, Option, None, Some, refl, ap, subst, inl, inr, ⊎_elim, arith}
+use Rattle.std.specs.Option.{MatchOption}
 use Rattle.std.proofs.lemmas.Bool.{both_ways, cases_lt}
 use Rattle.std.proofs.lemmas.Bool.Decides.{Decides-like}
 use Rattle.table.specs.declared.expression.Expression as stated
@@ -12,6 +13,11 @@ use Rattle.theory.specs.WellFormed.{Declared, well_formed}
 use Rattle.theory.proofs.Accepting.{well_formed_decides}
 use Rattle.theory.proofs.Deciding.{same_expression_decides, transitive_declared}
 use Rattle.theory.proofs.Forms.{inclusion_names}
+
+-- a search of what may be there, by both cases
+pub by_option : {A G P : Type 0} {Q : A → Type 0} (o : Option A) → MatchOption o P Q → (o ≡ None → P → G) → ((x : A) → o ≡ Some x → Q x → G) → G
+by_option None m none some = none refl m
+by_option (Some x) m none some = some x refl m
 
 -- what is not below a limit by a test
 pub not_below : (b : Bool) (n m : ℕ) → Decides b (n < m) → b ≡ false → m ≤ n

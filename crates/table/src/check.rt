@@ -3,7 +3,7 @@ ghost use Rattle.table.specs.Answers.{Answers};
 ghost use Rattle.table.specs.Stages.{HeaderRead};
 
 use crate::checked::Checked;
-use crate::lines::{read_lines, word_of};
+use crate::lines::read_lines;
 use crate::stated::Stated;
 use layout::refusal::Refusal;
 use layout::sizes::Sizes;
@@ -27,10 +27,10 @@ fn read_sizes(bytes: &[u8]) -> Result<Sizes, Refusal>
         return Err(Refusal::TooShort);
     };
     let sizes = Sizes::new(
-        word_of(*c_low, *c_high),
-        word_of(*r_low, *r_high),
-        word_of(*i_low, *i_high),
-        word_of(*n_low, *n_high),
+        u16::from_le_bytes([*c_low, *c_high]),
+        u16::from_le_bytes([*r_low, *r_high]),
+        u16::from_le_bytes([*i_low, *i_high]),
+        u16::from_le_bytes([*n_low, *n_high]),
     )?;
     if rest.len() != 10 * sizes.axioms as usize {
         return Err(Refusal::WrongLength);
@@ -44,6 +44,7 @@ pub fn check(bytes: &[u8]) -> Result<Checked, Refusal>
     ensures inverse { ReadingInvertsWriting }
 {
     let sizes = read_sizes(bytes)?;
+    // Taken again, since a Result that holds a slice beside `Sizes` gets no generated proof.
     let axioms = read_lines(sizes, &bytes[8..])?;
     let stated = Stated {
         sizes,

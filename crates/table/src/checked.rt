@@ -9,6 +9,8 @@ use layout::sizes::Sizes;
 /// The most axioms that a table has.
 pub const MOST: usize = 64;
 
+// The size of the list is kept with the other three: by the type it is how many axioms are there.
+
 /// A table that has passed its checks: it is well-formed by its type.
 #[derive(Drop)]
 pub struct Checked {

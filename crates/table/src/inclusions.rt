@@ -27,7 +27,7 @@ fn includes(axiom: Axiom, lower: Expression, upper: Expression) -> bool
     }
 }
 
-impl<'a> Stated<'a> {
+impl Stated<'_> {
     /// The node of an expression: the roles come first, then their inverses.
     fn node(&self, expression: Expression) -> usize
         ensures { result ≡ node_of (table_in self.now) (expression_in expression) }
@@ -61,7 +61,7 @@ impl<'a> Stated<'a> {
 }
 
 /// Role expressions as nodes, with an edge for each inclusion of an axiom.
-impl<'a> Graph for Stated<'a> {
+impl Graph for Stated<'_> {
     ghost digraph = { λ s. inclusion_graph (table_in s) };
 
     fn nodes(&self) -> usize {

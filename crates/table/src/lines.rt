@@ -1,6 +1,6 @@
 ghost use Rattle.std.specs.Prelude.{◌≡◌, ◌*◌, ◌≤◌, [], length, drop, IfOk};
 ghost use Rattle.layout.specs.Meaning.{line_in, table_of};
-ghost use Rattle.layout.specs.Words.{word, word_at};
+ghost use Rattle.layout.specs.Words.{word_at};
 ghost use Rattle.table.specs.Stages.{line_from, LinesRead};
 
 use crate::checked::MOST;
@@ -11,13 +11,6 @@ use layout::reading::read_line;
 use layout::refusal::Refusal;
 use layout::sizes::Sizes;
 
-/// A 16-bit word.
-pub(crate) fn word_of(low: u8, high: u8) -> u16
-    ensures { result ≡ word low high }
-{
-    u16::from_le_bytes([low, high])
-}
-
 /// A form code, and the codes after it.
 fn split_form(forms: &[u8]) -> (u16, &[u8])
     requires { 2 ≤ length forms.now }
@@ -25,9 +18,9 @@ fn split_form(forms: &[u8]) -> (u16, &[u8])
     ensures rest { result.1.now ≡ drop 2 forms.now }
 {
     let [low, high, rest @ ..] = forms else {
-        unreachable()
+        unreachable!()
     };
-    (word_of(*low, *high), rest)
+    (u16::from_le_bytes([*low, *high]), rest)
 }
 
 /// The line of a form code and the first record, and the records after it.
@@ -48,14 +41,14 @@ fn split_record(form: u16, records: &[u8]) -> (Line, &[u8])
         rest @ ..,
     ] = records
     else {
-        unreachable()
+        unreachable!()
     };
     let line = Line {
         form,
-        p: word_of(*p_low, *p_high),
-        q: word_of(*q_low, *q_high),
-        r: word_of(*r_low, *r_high),
-        s: word_of(*s_low, *s_high),
+        p: u16::from_le_bytes([*p_low, *p_high]),
+        q: u16::from_le_bytes([*q_low, *q_high]),
+        r: u16::from_le_bytes([*r_low, *r_high]),
+        s: u16::from_le_bytes([*s_low, *s_high]),
     };
     (line, rest)
 }
@@ -66,6 +59,7 @@ pub(crate) fn read_lines(sizes: Sizes, rest: &[u8]) -> Result<ArrayVec<Axiom, MO
     ensures read { LinesRead (table_of sizes []) rest.now sizes.axioms result }
     ensures counted { IfOk result (λ v. length v.items ≡ sizes.axioms) }
 {
+    // No chunks: that patterns take each record apart, with named bytes and the rest, is a rule of the project.
     let mut forms = rest;
     let mut records = &rest[2 * sizes.axioms as usize..];
     let mut lines: ArrayVec<Line, MOST> = ArrayVec::new();

@@ -9,7 +9,7 @@ use crate::stated::Stated;
 use layout::axiom::Axiom;
 use names::{Concept, Role};
 
-impl<'a> Stated<'a> {
+impl Stated<'_> {
     /// Whether the axiom makes a role transitive that is included, one way or the other, in this one.
     fn spoils(&self, role: Role, axiom: Axiom) -> bool
         ensures { result ≡ spoils (table_in self.now) role.number (axiom_in «axiom») }
@@ -35,10 +35,10 @@ impl<'a> Stated<'a> {
     pub(crate) fn numbers_simple(&self, word: u16) -> bool
         ensures { result ≡ (nat_lt word self.now.sizes.roles && is_simple (table_in self.now) word) }
     {
-        match self.sizes.role(word) {
-            Some(role) => self.is_simple(role),
-            None => false,
-        }
+        let is_simple = |role: Role| -> bool
+            ensures { result ≡ is_simple (table_in self.entry.now) role.number }
+        { self.is_simple(role) };
+        self.sizes.role(word).is_some_and(is_simple)
     }
 
     /// Whether the axiom makes witnesses by this role unsafe.

@@ -9,7 +9,7 @@ use crate::stated::Stated;
 use layout::axiom::Axiom;
 use layout::refusal::Refusal;
 
-impl<'a> Stated<'a> {
+impl Stated<'_> {
     /// Refuses the 33rd axiom that asks for a witness.
     pub(crate) fn few_witnesses(&self) -> Result<(), Refusal>
         ensures { FirstPlace (too_many (table_in self.now).axioms) TooManyWitnesses (length self.now.axioms.now) result }

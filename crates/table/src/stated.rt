@@ -7,7 +7,7 @@ use layout::axiom::Axiom;
 use layout::sizes::Sizes;
 
 /// What a table says: its sizes, and its axioms, whose arguments are declared.
-#[derive(Clone, Copy)]
+#[derive(Clone, Copy, PartialEq, Eq, Debug)]
 pub(crate) struct Stated<'a> {
     pub(crate) sizes: Sizes,
     pub(crate) axioms: &'a [Axiom],

@@ -81,10 +81,8 @@ impl Checked {
         ensures decides { Decides result (Unsafe (meaning self.now) k) }
         ensures computes { result ≡ is_unsafe (meaning self.now) k }
     {
-        match self.axiom(k) {
-            Some(axiom) => self.stated().has_unsafe(axiom),
-            None => false,
-        }
+        self.axiom(k)
+            .is_some_and(|axiom| self.stated().has_unsafe(axiom))
     }
 
     /// How many of its roles are simple.

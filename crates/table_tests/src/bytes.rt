@@ -39,8 +39,7 @@ pub(crate) fn encoded(heap: Global, sizes: [u16; 4], rows: &[Row]) -> Result<Vec
 
 /// Number and place of the refusal, if there is one.
 pub(crate) fn answer(bytes: &[u8]) -> Option<(u8, u8)> {
-    match check(bytes) {
-        Ok(_) => None,
-        Err(refusal) => Some((refusal.number(), refusal.place())),
-    }
+    check(bytes)
+        .err()
+        .map(|refusal| (refusal.number(), refusal.place()))
 }
