@@ -1,6 +1,7 @@
 -- Chains that count the elements of a list, or find the place of one.
 use Rattle.std.proofs.Common.{◌≡◌, ℕ, zero, suc, ◌+◌, ◌<◌, ◌≤◌, Bool, true, false, cond, ◌&&◌, ◌⊎◌, inl, inr, eqb, ltb, List, [], ◌∷◌, map, length, take, filter, Some, None, Ok, Err, Option, sym, refl, ap, ◌∙◌, subst, ⊎_elim, add-zero, add-one, zero-add, arith, take_all}
 use lib.ListN.{length-map}
+use Rattle.std.specs.Option.{MatchOption}
 use Rattle.std.specs.List.{slice_get, enumerate_from, range_with_len, AllWithin, HoldsAt}
 use Rattle.std.proofs.lemmas.Bool.{cases_Bool, cond-true, cond-false, eqb-true, eq-eqb, and_from}
 use Rattle.std.proofs.lemmas.Bool.Decides.{nat_tests}
@@ -30,7 +31,7 @@ length_kept p (a ∷ l) = go (p a) (length_kept p l)
 
 -- the places of the elements that pass, in order
 module _ {A B : Type 0} (f : A → B) (p : B → Bool) where
-  abbrev kept : ℕ → List A → List (ℕ × A)
+  abbrev pub kept : ℕ → List A → List (ℕ × A)
   kept from l = filter (λ (e : ℕ × A). p (f e.1)) (enumerate_from from l)
 
   -- element n of those that pass, by its place
@@ -99,11 +100,11 @@ module _ {A : Type 0} (xs : List A) (test : ℕ → Bool) (made : ℕ → Refusa
       let (x, is) = nth_some xs j (omega arith) in
       at j x is ∙ ap passing (sym (get_or-nth xs j x x is)) ∙ none j x (omega arith) h
 
-  pub no_place : AllWithin (λ x. passing x ≡ false) xs 0 (length xs) → FirstPlace test made (length xs) (Ok tt)
-  no_place none = none_before (length xs) (omega arith) none
-
-  pub some_place : (i : ℕ) → (i < length xs) × HoldsAt (λ x. passing x ≡ true) xs i × AllWithin (λ x. passing x ≡ false) xs 0 i → FirstPlace test made (length xs) (Err (made i))
-  some_place i (h, here, none) =
+  pub at_first :
+      (r : Option ℕ) → MatchOption r (AllWithin (λ x. passing x ≡ false) xs 0 (length xs)) (λ i. (i < length xs) × HoldsAt (λ x. passing x ≡ true) xs i × AllWithin (λ x. passing x ≡ false) xs 0 i)
+      → MatchOption r (FirstPlace test made (length xs) (Ok tt)) (λ i. FirstPlace test made (length xs) (Err (made i)))
+  at_first None none = none_before (length xs) (omega arith) none
+  at_first (Some i) (h, here, none) =
       let (x, is) = nth_some xs i h in
       (i, h, at i x is ∙ ap passing (sym (get_or-nth xs i x x is)) ∙ here x, refl, none_before i (omega arith) none)
 

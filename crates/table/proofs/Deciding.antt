@@ -1,5 +1,5 @@
 -- What checking answers, by how far it came.
-use Rattle.std.proofs.Common.{◌≡◌, ℕ, ◌+◌, ◌*◌, ◌<◌, ◌≤◌, true, false, cond, not, eqb, ltb, List, [], ◌∷◌, ◌++◌, map, length, drop, Some, None, Ok, Err, Option, Result, sym, refl, ap, ◌∙◌, subst, zero-add, arith, length-drop}
+use Rattle.std.proofs.Common.{◌≡◌, ℕ, ◌+◌, ◌*◌, ◌<◌, ◌≤◌, Bool, true, false, cond, not, eqb, ltb, List, [], ◌∷◌, ◌++◌, map, length, drop, Some, None, Ok, Err, Option, Result, sym, refl, ap, ◌∙◌, subst, zero-add, arith, length-drop}
 use mathlib.Core.List.Memᴰ
 use Rattle.std.proofs.lemmas.Bool.{cond-true, cond-false, not-false}
 use Rattle.std.proofs.lemmas.Bool.Decides.{nat_tests}
@@ -173,37 +173,42 @@ module _ (bs : List ℕ) where
         accepts : FirstPlace (not_simple (table_of z l.items)) NotSimple (axioms_in bs) (Ok tt) → checked bs ≡ accepted (table_of z l.items)
         accepts h = witnesses_passed ∙ ap (outcome (says bs)) (place_none (applies bs) NotSimple _ simple_test (axioms_in bs) tt h) ∙ ap accepted table_said
 
--- the same by what the program holds: the bytes after the sizes, and as many axioms as the sizes say
-module _ (bs rest : List ℕ) (z : Sizes) (e : rest ≡ drop 8 bs) (header : Header bs z) where
-  pub line_refused : (f : Refusal) → LinesRead (table_of z []) rest z.axioms (Err f) → checked bs ≡ refused f
-  line_refused f h = bad_line bs z header f (subst (λ x. LinesRead (table_of z []) x z.axioms (Err f)) e h)
+-- the same by what the program holds: the bytes after the sizes
+pub line_refused : (bs rest : List ℕ) (z : Sizes) → rest ≡ drop 8 bs → Header bs z → (f : Refusal) → LinesRead (table_of z []) rest z.axioms (Err f) → checked bs ≡ refused f
+line_refused bs rest z e header f h = bad_line bs z header f (subst (λ x. LinesRead (table_of z []) x z.axioms (Err f)) e h)
 
-  module _ (l : ArrayVec Axiom) (h : length l.items ≡ z.axioms) (raw : LinesRead (table_of z []) rest z.axioms (Ok l)) (ys : List Axiom) (same : ys ≡ l.items) where
-    read : LinesRead (table_of z []) (drop 8 bs) z.axioms (Ok l)
-    read = subst (λ x. LinesRead (table_of z []) x z.axioms (Ok l)) e raw
+-- and as many axioms as the sizes say, seen as a slice
+pub record AxiomsRead (bs : List ℕ) (z : Sizes) (l : ArrayVec Axiom) (ys : List Axiom) : Type 0 where
+  pub header : Header bs z
+  pub counted : length l.items ≡ z.axioms
+  pub read : LinesRead (table_of z []) (drop 8 bs) z.axioms (Ok l)
+  pub seen : ys ≡ l.items
 
-    count : length l.items ≡ axioms_in bs
-    count = h ∙ header.axioms
+module _ {bs : List ℕ} {z : Sizes} {l : ArrayVec Axiom} {ys : List Axiom} (held : AxiomsRead bs z l ys) where
+  count : length l.items ≡ axioms_in bs
+  count = held.counted ∙ held.header.axioms
 
-    few_at : (r : Result (Unit {0}) Refusal) → FirstPlace (too_many (map axiom_in ys)) TooManyWitnesses (length ys) r → FirstPlace (too_many (map axiom_in l.items)) TooManyWitnesses (axioms_in bs) r
-    few_at r p =
-        subst (λ k. FirstPlace (too_many (map axiom_in l.items)) TooManyWitnesses k r) count
-        (subst (λ xs. FirstPlace (too_many (map axiom_in xs)) TooManyWitnesses (length xs) r) same p)
+  -- a first place among the slice's axioms is one among those that the bytes say
+  place_at : (test : List Axiom → ℕ → Bool) (made : ℕ → Refusal) (r : Result (Unit {0}) Refusal) → FirstPlace (test ys) made (length ys) r → FirstPlace (test l.items) made (axioms_in bs) r
+  place_at test made r p =
+      subst (λ k. FirstPlace (test l.items) made k r) count
+      (subst (λ xs. FirstPlace (test xs) made (length xs) r) held.seen p)
 
-    simple_at : (r : Result (Unit {0}) Refusal) → FirstPlace (not_simple (table_of z ys)) NotSimple (length ys) r → FirstPlace (not_simple (table_of z l.items)) NotSimple (axioms_in bs) r
-    simple_at r p =
-        subst (λ k. FirstPlace (not_simple (table_of z l.items)) NotSimple k r) count
-        (subst (λ xs. FirstPlace (not_simple (table_of z xs)) NotSimple (length xs) r) same p)
+  few_at : (r : Result (Unit {0}) Refusal) → FirstPlace (too_many (map axiom_in ys)) TooManyWitnesses (length ys) r → FirstPlace (too_many (map axiom_in l.items)) TooManyWitnesses (axioms_in bs) r
+  few_at = place_at (λ xs. too_many (map axiom_in xs)) TooManyWitnesses
 
-    pub all_declared : all_of (declares (table_of z ys)) (map axiom_in ys) ≡ true
-    all_declared = subst (λ xs. all_of (declares (table_of z xs)) (map axiom_in xs) ≡ true) (sym same) (declared_read bs z header l read)
+  simple_at : (r : Result (Unit {0}) Refusal) → FirstPlace (not_simple (table_of z ys)) NotSimple (length ys) r → FirstPlace (not_simple (table_of z l.items)) NotSimple (axioms_in bs) r
+  simple_at = place_at (λ xs. not_simple (table_of z xs)) NotSimple
 
-    pub witness_refused : (f : Refusal) → FirstPlace (too_many (map axiom_in ys)) TooManyWitnesses (length ys) (Err f) → checked bs ≡ refused f
-    witness_refused f p = bad_witness bs z header l read f (few_at (Err f) p)
+  pub all_declared : all_of (declares (table_of z ys)) (map axiom_in ys) ≡ true
+  all_declared = subst (λ xs. all_of (declares (table_of z xs)) (map axiom_in xs) ≡ true) (sym held.seen) (declared_read bs z held.header l held.read)
 
-    module _ (few : FirstPlace (too_many (map axiom_in ys)) TooManyWitnesses (length ys) (Ok tt)) where
-      pub count_refused : (f : Refusal) → FirstPlace (not_simple (table_of z ys)) NotSimple (length ys) (Err f) → checked bs ≡ refused f
-      count_refused f p = bad_count bs z header l read (few_at (Ok tt) few) f (simple_at (Err f) p)
+  pub witness_refused : (f : Refusal) → FirstPlace (too_many (map axiom_in ys)) TooManyWitnesses (length ys) (Err f) → checked bs ≡ refused f
+  witness_refused f p = bad_witness bs z held.header l held.read f (few_at (Err f) p)
 
-      pub all_passed : FirstPlace (not_simple (table_of z ys)) NotSimple (length ys) (Ok tt) → checked bs ≡ accepted (table_of z l.items)
-      all_passed p = accepts bs z header l read (few_at (Ok tt) few) (simple_at (Ok tt) p)
+  module _ (few : FirstPlace (too_many (map axiom_in ys)) TooManyWitnesses (length ys) (Ok tt)) where
+    pub count_refused : (f : Refusal) → FirstPlace (not_simple (table_of z ys)) NotSimple (length ys) (Err f) → checked bs ≡ refused f
+    count_refused f p = bad_count bs z held.header l held.read (few_at (Ok tt) few) f (simple_at (Err f) p)
+
+    pub all_passed : FirstPlace (not_simple (table_of z ys)) NotSimple (length ys) (Ok tt) → checked bs ≡ accepted (table_of z l.items)
+    all_passed p = accepts bs z held.header l held.read (few_at (Ok tt) few) (simple_at (Ok tt) p)
