@@ -1,7 +1,8 @@
 -- Paths of marked nodes.
-use Rattle.std.proofs.Common.{◌≡◌, ℕ, suc, ◌+◌, ◌<◌, ◌≤◌, Bool, true, ◌⊎◌, List, [], ◌∷◌, length, get_or, replicate, sym, refl, ◌∙◌, subst, inl, inr, ⊎_elim, arith}
+use Rattle.std.proofs.Common.{◌≡◌, ℕ, suc, ◌+◌, ◌<◌, ◌≤◌, Bool, true, ◌⊎◌, List, [], ◌∷◌, length, get_or, take, replicate, sym, refl, ◌∙◌, subst, inl, inr, ⊎_elim, arith}
 use mathlib.Core.List.Memᴰ
 use Rattle.std.proofs.lemmas.Bool.{cases_Bool, cases_lt, both_ways}
+use Rattle.std.proofs.lemmas.List.{get_or-take, length-take-le}
 use Rattle.graph.specs.Digraph.{Digraph, Step, Leads, stay, step, Walk}
 use Rattle.shapes.specs.Cycles.{DirectedCycle}
 use Rattle.graph.specs.Digraph.{◌∈◌, Distinct}
@@ -99,6 +100,15 @@ module _ (g : Digraph) (marked : ℕ → Bool) where
           let few = pigeon g.nodes (a ∷ l) (walk_distinct g free a l p.end p.walk) (λ x m. (p.nodes x m).0) in
           let b = (all a node).most l p (omega arith) in
           omega (arith, t.above a (omega arith));
+    }
+
+-- the largest of the first n numbers of a list
+pub largest_first : (l : List ℕ) (n r : ℕ) → n ≤ length l → Largest (λ k. get_or (take n l) k 0) (length (take n l)) r → Largest (λ k. get_or l k 0) n r
+largest_first l n r h t =
+    let long : length (take n l) ≡ n = length-take-le n l h in
+    record {
+      above = λ k i. subst (λ v. v ≤ r) (get_or-take n l k 0 i) (t.above k (omega arith));
+      least = ⊎_elim (λ e. inl e) (λ (k, i, e). inr (k, omega arith, e ∙ get_or-take n l k 0 (omega arith))) t.least;
     }
 
 one_way : (g : Digraph) (marked : ℕ → Bool) (h k : ℕ) → IsHeight g marked h → IsHeight g marked k → h ≤ k

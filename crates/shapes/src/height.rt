@@ -1,4 +1,4 @@
-ghost use Rattle.std.specs.Prelude.{ℕ, ◌<◌, ◌≤◌, slice_index};
+ghost use Rattle.std.specs.Prelude.{ℕ, ◌<◌, ◌≤◌, length, slice_index};
 ghost use Rattle.shapes.specs.Cycles.{DirectedCycle};
 ghost use Rattle.graph.specs.Digraph.{marks};
 ghost use Rattle.shapes.specs.Heights.{IsHeight, BestAfter, OneMore, Largest};
@@ -56,14 +56,13 @@ impl<'a, G: Graph> Marked<'a, G> {
         for _round in 0..n {
             best = self.relaxed(&best);
         }
-        largest(&best, n)
+        largest(&best[..n])
     }
 }
 
-/// The largest of the first numbers.
-fn largest(of: &[u8; MOST], n: usize) -> u8
-    requires { n ≤ 48 }
-    ensures { Largest (λ k. slice_index of.now k) n result }
+/// The largest of the numbers, 0 if there is none.
+fn largest(of: &[u8]) -> u8
+    ensures { Largest (λ k. slice_index of.now k) (length of.now) result }
 {
-    of.iter().take(n).copied().max().unwrap_or(0)
+    of.iter().copied().max().unwrap_or(0)
 }

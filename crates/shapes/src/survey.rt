@@ -6,6 +6,7 @@ use crate::shape::{Shape, classify};
 use graph::graph::{Graph, MOST};
 
 /// The shape of a graph, and the most marked nodes on one path of them, 0 if the graph is cyclic.
+// By a rule of the project a cyclic graph has height 0.
 #[derive(Clone, Copy, PartialEq, Eq, Debug)]
 pub struct Survey {
     pub shape: Shape,

@@ -7,6 +7,7 @@ ghost use Rattle.trial.specs.Nesting.{row_in};
 ghost use Rattle.trial.specs.Rows.{terms_in};
 
 use crate::listing::first_terms;
+use graph::graph::MOST;
 use std::array;
 use table::checked::Checked;
 use trial::{Row, Terms};
@@ -25,14 +26,14 @@ fn is_unsafe_row(table: &Checked, row: Row) -> bool
 pub(crate) fn is_unsafe_term(table: &Checked, terms: &Terms, number: usize) -> bool
     ensures { result ≡ unsafe_term (meaning table.now) (term_at (terms_in terms.now) number) }
 {
-    match terms.rows().get(number) {
-        Some(row) => is_unsafe_row(table, *row),
-        None => false,
-    }
+    terms
+        .rows()
+        .get(number)
+        .is_some_and(|row| is_unsafe_row(table, *row))
 }
 
 /// By term number, whether the term is the witness of an unsafe axiom.
-pub fn unsafe_marks(table: &Checked) -> [bool; 48]
+pub fn unsafe_marks(table: &Checked) -> [bool; MOST]
     ensures { (i : ℕ) → slice_index_or result i false ≡ unsafe_term (meaning table.now) (term_at (judging_terms (meaning table.now)) i) }
 {
     let terms = first_terms(table);

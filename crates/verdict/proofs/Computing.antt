@@ -1,7 +1,6 @@
 -- Verdicts by evaluation, from the edges that judging ends with.
-use Rattle.std.proofs.Common.{◌≡◌, ℕ, Bool, true, false, cond, ◌&&◌, ◌||◌, eqb, ◌⊎◌, List, [], ◌∷◌, length, filter, sym, refl, ap, ◌∙◌, inl, inr}
-use Rattle.std.proofs.lemmas.Bool.Decides.{Decides-at}
-use Rattle.std.proofs.lemmas.Bool.{ne_eqb, eq-eqb, cases_eq}
+use Rattle.std.proofs.Common.{◌≡◌, ℕ, Bool, true, false, cond, ◌&&◌, ◌||◌, eqb, List, [], ◌∷◌, length, filter, sym, refl, ap, ◌∙◌, arith}
+use Rattle.std.proofs.lemmas.Bool.Decides.{Decides-at, nat_tests}
 use Rattle.graph.specs.Digraph.{Digraph}
 use Rattle.theory.specs.Lists.{any_of}
 use Rattle.theory.specs.Table.{Table}
@@ -16,11 +15,7 @@ use Rattle.chase.proofs.Judging.{judging_stands}
 use Rattle.verdict.specs.Verdicts.{EdgesOf}
 
 eqb_turned : (a b : ℕ) → eqb a b ≡ eqb b a
-eqb_turned a b = go (cases_eq a b)
-  where
-    go : (a ≡ b) ⊎ ((a ≡ b) → ⊥) → eqb a b ≡ eqb b a
-    go (inl e) = eq-eqb a b e ∙ sym (eq-eqb b a (sym e))
-    go (inr n) = ne_eqb a b n ∙ sym (ne_eqb b a (λ e. n (sym e)))
+eqb_turned a b = grind (arith, nat_tests)
 
 -- only edges are held as edges
 among_edges : (i j : ℕ) (fs : List (Fact ℕ)) → any_of (same_fact (role edge i j)) fs ≡ any_of (same_fact (role edge i j)) (filter is_edge fs)

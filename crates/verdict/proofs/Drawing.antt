@@ -1,5 +1,6 @@
 -- Edges drawn entry by entry.
-use Rattle.std.proofs.Common.{◌≡◌, ℕ, zero, suc, ◌+◌, Bool, true, false, ◌&&◌, ◌||◌, eqb, List, [], ◌∷◌, ◌++◌, length, Option, sym, refl, ap, ◌∙◌, add-one, eq-eqb}
+use Rattle.std.proofs.Common.{◌≡◌, ℕ, zero, suc, ◌+◌, Bool, ◌&&◌, ◌||◌, eqb, List, [], ◌∷◌, ◌++◌, length, Option, sym, refl, ap, ◌∙◌, add-one, eq-eqb}
+use Rattle.std.proofs.Math.Bool.{or_assoc, or-false}
 use Rattle.std.specs.Fn.{Called}
 use Rattle.std.specs.Iterator.{Drains}
 use Rattle.std.specs.List.{slice_get, filter_map, cons_option, range_with_len, FoldsTo}
@@ -26,17 +27,9 @@ pub record Drawn (n : ℕ) (es : List Entry) (rows : Rows) : Type 0 where
   pub nodes : rows.count ≡ n
   pub edges : (i j : ℕ) → (tabled rows.rows rows.count).edge i j ≡ any_of (λ e. links i j e.fact) es
 
-or_assoc : (a b c : Bool) → (a || (b || c)) ≡ ((a || b) || c)
-or_assoc true b c = refl
-or_assoc false b c = refl
-
-or_false : (a : Bool) → (a || false) ≡ a
-or_false true = refl
-or_false false = refl
-
 any_push : {A : Type 0} (p : A → Bool) (l : List A) (a : A) → any_of p (l ++ (a ∷ [])) ≡ (any_of p l || p a)
-any_push p [] a = or_false (p a)
-any_push p (b ∷ l) a = ap (λ r. p b || r) (any_push p l a) ∙ or_assoc (p b) (any_of p l) (p a)
+any_push p [] a = or-false (p a)
+any_push p (b ∷ l) a = ap (λ r. p b || r) (any_push p l a) ∙ sym (or_assoc (p b) (any_of p l) (p a))
 
 -- one entry more
 pub drawn_more : (n : ℕ) (es : List Entry) (e : Entry) (before after : Rows) → Drawn n es before → after.count ≡ before.count → ((i j : ℕ) → (tabled after.rows after.count).edge i j ≡ ((tabled before.rows before.count).edge i j || links i j e.fact)) → Drawn n (es ++ (e ∷ [])) after

@@ -5,6 +5,7 @@ use shapes::shape::Shape;
 use std::fmt::{Display, Formatter, Result, Write};
 
 /// What judging a table finds: the shape of its edges, the most unsafe witnesses on one path of them, and how many axioms are unsafe.
+// By a rule of the project a cyclic graph has height 0, and the line says so.
 #[derive(Clone, Copy, PartialEq, Eq, Debug)]
 pub struct Verdict {
     pub shape: Shape,
