@@ -10,7 +10,8 @@ use Rattle.theory.specs.Table.{Axiom, Table, Line, at_most_one, line_of, has_for
 use Rattle.theory.specs.Roles.{Simple}
 use Rattle.theory.specs.WellFormed.{declares, Declared, Apart, WellFormed, counts_simple}
 use Rattle.theory.proofs.Members.{any_of_decides}
-use Rattle.theory.proofs.Places.{no_some, in_nth, nth_below, nth_map, length_up, nth_up, in_up, up_in, in_each, each_in, apart_from, count_limit}
+use Rattle.theory.proofs.Places.{no_some, in_nth, nth_map, length_up, nth_up, in_up, up_in, in_each, each_in, apart_from, count_limit}
+use Rattle.std.proofs.lemmas.Option.{slice_get_within}
 use Rattle.theory.proofs.Forms.{same_axiom}
 use Rattle.theory.proofs.Accepting.{same_line_decides, counts_simple_reads}
 use Rattle.layout.specs.declared.refusal.Refusal.{Refusal}
@@ -153,7 +154,7 @@ module _ (bs : List ℕ) (none : first (applies bs) (order (axioms_in bs)) ≡ N
   -- axiom k has line k
   pub said_line : (k : ℕ) (a : Axiom) → slice_get (says bs).axioms k ≡ Some a → (k < axioms_in bs) × (line_of a ≡ line_at bs k)
   said_line k a e =
-      let low : k < axioms_in bs = omega (arith, nth_below (says bs).axioms k a e, length-said) in
+      let low : k < axioms_in bs = omega (arith, slice_get_within (says bs).axioms k a e, length-said) in
       let u = nth_map line_of (says bs).axioms k a e in
       let v = nth_line bs (axioms_in bs) k low in
       let w = ap (λ l. slice_get l k) said_lines in

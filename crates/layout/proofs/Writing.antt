@@ -8,7 +8,8 @@ use Rattle.theory.specs.Lists.{any_of, count_of, up_from, each}
 use Rattle.theory.specs.Table.{Axiom, Table, Line, line_of, has_form, axiom_of, same_line}
 use Rattle.theory.specs.WellFormed.{WellFormed, counts_simple}
 use Rattle.theory.proofs.Members.{any_of_decides}
-use Rattle.theory.proofs.Places.{no_some, nth_in, nth_below, nth_some, nth_map, get_or-nth, same_places, up_in, apart_at, count_before}
+use Rattle.theory.proofs.Places.{no_some, nth_in, nth_some, nth_map, same_places, up_in, apart_at, count_before}
+use Rattle.std.proofs.lemmas.Option.{slice_get_within, get_or_from_slice_get}
 use Rattle.theory.proofs.Forms.{axiom_of-line_of, same_axiom}
 use Rattle.theory.proofs.Accepting.{same_words, same_line_decides, simple_counts}
 use Rattle.layout.specs.declared.refusal.Refusal.{Refusal}
@@ -89,8 +90,8 @@ module _ (t : Table) where
   form_word k a e =
       let at : 4 + k ≡ suc (suc (suc (suc k))) = omega arith in
       ap (λ i. get_or (words_of t) i 0) at
-      ∙ get_or_append_left codes (each record_of t.axioms) 0 k (omega (arith, length-codes, nth_below t.axioms k a e))
-      ∙ get_or-nth codes k (line_of a).form 0 (nth_map (λ a. (line_of a).form) t.axioms k a e)
+      ∙ get_or_append_left codes (each record_of t.axioms) 0 k (omega (arith, length-codes, slice_get_within t.axioms k a e))
+      ∙ get_or_from_slice_get codes k (line_of a).form 0 (nth_map (λ a. (line_of a).form) t.axioms k a e)
 
   record_word : (k : ℕ) (a : Axiom) (r i : ℕ) → slice_get t.axioms k ≡ Some a → r < 4 → i ≡ 4 + length t.axioms + 4 * k + r → get_or (words_of t) i 0 ≡ get_or (record_of a) r 0
   record_word k a r i e h is =
@@ -131,7 +132,7 @@ module _ (t : Table) where
     where
       at : (k : ℕ) (l : Line) → slice_get (map line_of t.axioms) k ≡ Some l → slice_get (lines_to bytes (axioms_in bytes)) k ≡ Some l
       at k l e =
-          let low : k < length t.axioms = omega (arith, nth_below (map line_of t.axioms) k l e, length-map t.axioms line_of) in
+          let low : k < length t.axioms = omega (arith, slice_get_within (map line_of t.axioms) k l e, length-map t.axioms line_of) in
           let (a, here) = nth_some t.axioms k low in
           let u = nth_map line_of t.axioms k a here in
           let v = line_written k a here in

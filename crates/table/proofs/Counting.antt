@@ -7,7 +7,8 @@ use Rattle.std.proofs.lemmas.Bool.{cases_Bool, cond-true, cond-false, eqb-true, 
 use Rattle.std.proofs.lemmas.Bool.Decides.{nat_tests}
 use Rattle.theory.specs.Lists.{count_of, up_from}
 use Rattle.theory.specs.Table.{Axiom, has_form}
-use Rattle.theory.proofs.Places.{no_some, nth_below, nth_some, nth_map, get_or-nth}
+use Rattle.theory.proofs.Places.{no_some, nth_some, nth_map}
+use Rattle.std.proofs.lemmas.Option.{slice_get_within, get_or_from_slice_get}
 use Rattle.layout.specs.declared.axiom.Axiom as stated
 use Rattle.layout.specs.declared.refusal.Refusal.{Refusal}
 use Rattle.layout.specs.declared.refusal.Refusal.TheVariants.{TooManyWitnesses}
@@ -98,7 +99,7 @@ module _ {A : Type 0} (xs : List A) (test : ℕ → Bool) (made : ℕ → Refusa
   none_before : (n : ℕ) → n ≤ length xs → AllWithin (λ x. passing x ≡ false) xs 0 n → (j : ℕ) → j < n → test j ≡ false
   none_before n few none j h =
       let (x, is) = nth_some xs j (omega arith) in
-      at j x is ∙ ap passing (sym (get_or-nth xs j x x is)) ∙ none j x (omega arith) h
+      at j x is ∙ ap passing (sym (get_or_from_slice_get xs j x x is)) ∙ none j x (omega arith) h
 
   pub at_first :
       (r : Option ℕ) → MatchOption r (AllWithin (λ x. passing x ≡ false) xs 0 (length xs)) (λ i. (i < length xs) × HoldsAt (λ x. passing x ≡ true) xs i × AllWithin (λ x. passing x ≡ false) xs 0 i)
@@ -106,7 +107,7 @@ module _ {A : Type 0} (xs : List A) (test : ℕ → Bool) (made : ℕ → Refusa
   at_first None none = none_before (length xs) (omega arith) none
   at_first (Some i) (h, here, none) =
       let (x, is) = nth_some xs i h in
-      (i, h, at i x is ∙ ap passing (sym (get_or-nth xs i x x is)) ∙ here x, refl, none_before i (omega arith) none)
+      (i, h, at i x is ∙ ap passing (sym (get_or_from_slice_get xs i x x is)) ∙ here x, refl, none_before i (omega arith) none)
 
 -- the 33rd witness, by its place among the axioms
 module _ (xs : List stated.Axiom) where
@@ -115,7 +116,7 @@ module _ (xs : List stated.Axiom) where
       let (j, at, is, q, count) = found_at axiom_in (has_form 8) 0 xs 32 e h in
       let l = map axiom_in xs in
       let here = nth_map axiom_in xs j e.1 is in
-      (j, nth_below xs j e.1 is, and_from _ _ (ap (passes (has_form 8)) here ∙ q) (eq-eqb _ 32 count), ap TooManyWitnesses (at ∙ zero-add j), λ i h. none_yet (map axiom_in xs) i j h (omega arith))
+      (j, slice_get_within xs j e.1 is, and_from _ _ (ap (passes (has_form 8)) here ∙ q) (eq-eqb _ 32 count), ap TooManyWitnesses (at ∙ zero-add j), λ i h. none_yet (map axiom_in xs) i j h (omega arith))
 
   pub no_witness_place : slice_get (kept axiom_in (has_form 8) 0 xs) 32 ≡ None → FirstPlace (too_many (map axiom_in xs)) TooManyWitnesses (length xs) (Ok tt)
   no_witness_place h k low = none_yet (map axiom_in xs) k (length xs) low (subst (λ l. count_of (has_form 8) l ≤ 32) (sym (take_all (length xs) (map axiom_in xs) (omega (arith, length-map xs axiom_in)))) (few_kept axiom_in (has_form 8) 0 xs 32 h))

@@ -1,7 +1,9 @@
 -- Elements of a list by their place.
-use Rattle.std.proofs.Common.{◌≡◌, ℕ, zero, suc, ◌+◌, ◌<◌, ◌≤◌, Bool, true, false, cond, ◌⊎◌, List, [], ◌∷◌, map, length, get_or, take, Some, None, sym, refl, ap, ◌∙◌, ⊎_elim, le_of_suc-le-suc, add-one, arith}
+use Rattle.std.proofs.Common.{◌≡◌, ℕ, zero, suc, ◌+◌, ◌<◌, ◌≤◌, Bool, true, false, cond, ◌⊎◌, List, [], ◌∷◌, map, length, take, Some, None, sym, refl, ap, ◌∙◌, ⊎_elim, add-one, arith}
 use mathlib.Core.List.Memᴰ
 use Rattle.std.specs.List.{slice_get}
+use Rattle.std.specs.Option.{option_map}
+use Rattle.std.proofs.lemmas.Option.{slice_get-map, slice_get_within, slice_get_cases}
 use Rattle.std.proofs.lemmas.Bool.{cases_Bool, cond-true, cond-false}
 use Rattle.theory.specs.Lists.{◌∈◌, count_of, up_from, each}
 use Rattle.theory.specs.Table.{Axiom}
@@ -21,24 +23,13 @@ in_nth (Memᴰ.head e) = (zero, ap Some (sym e))
 in_nth (Memᴰ.tail m) = let (k, e) = in_nth m in (suc k, e)
 
 pub nth_below : {A : Type 0} (l : List A) (k : ℕ) (a : A) → slice_get l k ≡ Some a → k < length l
-nth_below [] k a e = no_some e
-nth_below (b ∷ l) zero a e = omega arith
-nth_below (b ∷ l) (suc k) a e = let h = nth_below l k a e in omega arith
+nth_below = slice_get_within
 
 pub nth_some : {A : Type 0} (l : List A) (k : ℕ) → k < length l → (a : A) × (slice_get l k ≡ Some a)
-nth_some [] k h = absurd (omega arith)
-nth_some (b ∷ l) zero h = (b, refl)
-nth_some (b ∷ l) (suc k) h = nth_some l k (omega arith)
+nth_some l k h = ⊎_elim (λ (a, _, e, _). (a, e)) (λ (past, _). absurd (omega arith)) (slice_get_cases l k).1
 
 pub nth_map : {A B : Type 0} (f : A → B) (l : List A) (k : ℕ) (a : A) → slice_get l k ≡ Some a → slice_get (map f l) k ≡ Some (f a)
-nth_map f [] k a e = no_some e
-nth_map f (b ∷ l) zero a e = let h : b ≡ a = cc in cc
-nth_map f (b ∷ l) (suc k) a e = nth_map f l k a e
-
-pub get_or-nth : {A : Type 0} (l : List A) (k : ℕ) (a d : A) → slice_get l k ≡ Some a → get_or l k d ≡ a
-get_or-nth [] k a d e = no_some e
-get_or-nth (b ∷ l) zero a d e = cc
-get_or-nth (b ∷ l) (suc k) a d e = get_or-nth l k a d e
+nth_map f l k a e = slice_get-map f l k ∙ ap (option_map f) e
 
 -- a list with these elements at these places
 pub same_places : {A : Type 0} (l m : List A) → length l ≡ length m → ((k : ℕ) (a : A) → slice_get l k ≡ Some a → slice_get m k ≡ Some a) → l ≡ m
@@ -128,11 +119,6 @@ module _ {A : Type 0} (p : A → Bool) where
           let same = cond-false (p b) (suc (count_of p l)) (count_of p l) e in
           omega arith
 
-pub nth_mapped : {A B : Type 0} (f : A → B) (xs : List A) (i : ℕ) (x : A) → i < length xs → x ≡ get_or xs i x → slice_get (map f xs) i ≡ Some (f x)
-nth_mapped f [] i x h e = absurd (omega arith)
-nth_mapped f (y ∷ xs) zero x h e = ap (λ z. Some (f z)) (cc)
-nth_mapped f (y ∷ xs) (suc i) x h e = nth_mapped f xs i x (le_of_suc-le-suc h) e
-
 -- one element more is counted
 pub count_more : {A : Type 0} (p : A → Bool) (l : List A) (i : ℕ) (a : A) → slice_get l i ≡ Some a → count_of p (take (i + 1) l) ≡ cond (p a) (suc (count_of p (take i l))) (count_of p (take i l))
 count_more p [] i a e = let z : ◌≡◌ {A = ℕ} 0 1 = cc in absurd (omega arith)
@@ -144,8 +130,3 @@ count_more p (b ∷ l) (suc i) a e = ap (λ k. count_of p (take k (b ∷ l))) (a
     go true false m n h = ap suc h
     go false true m n h = h
     go false false m n h = h
-
-pub nth_past : {A : Type 0} (l : List A) (k : ℕ) → length l ≤ k → slice_get l k ≡ None
-nth_past [] k h = refl
-nth_past (a ∷ l) zero h = absurd (omega arith)
-nth_past (a ∷ l) (suc k) h = nth_past l k (le_of_suc-le-suc h)

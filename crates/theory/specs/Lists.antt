@@ -1,4 +1,4 @@
--- Words on lists.
+-- Words on lists. The library has its own for most, and these stay: the contracts and definitions of every crate above are stated in them.
 use Rattle.std.specs.Prelude.{ℕ, zero, suc, Bool, true, false, cond, ◌&&◌, ◌||◌, List, [], ◌∷◌, ◌++◌}
 use mathlib.Core.List.{Memᴰ}
 
