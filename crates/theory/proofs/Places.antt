@@ -1,9 +1,9 @@
 -- Elements of a list by their place.
-use Rattle.std.proofs.Common.{◌≡◌, ℕ, zero, suc, ◌+◌, ◌<◌, ◌≤◌, Bool, true, false, cond, ◌⊎◌, List, [], ◌∷◌, map, length, take, Some, None, sym, refl, ap, ◌∙◌, ⊎_elim, add-one, arith}
+use Rattle.std.proofs.Common.{◌≡◌, ℕ, zero, suc, ◌+◌, ◌<◌, ◌≤◌, Bool, true, false, cond, ◌⊎◌, List, [], ◌∷◌, map, length, get_or, take, Some, None, sym, refl, ap, ◌∙◌, ⊎_elim, add-one, arith}
 use mathlib.Core.List.Memᴰ
 use Rattle.std.specs.List.{slice_get}
 use Rattle.std.specs.Option.{option_map}
-use Rattle.std.proofs.lemmas.Option.{slice_get-map, slice_get_within, slice_get_cases}
+use Rattle.std.proofs.lemmas.Option.{slice_get-map, slice_get_within, slice_get_read, slice_get_cases}
 use Rattle.std.proofs.lemmas.Bool.{cases_Bool, cond-true, cond-false}
 use Rattle.theory.specs.Lists.{◌∈◌, count_of, up_from, each}
 use Rattle.theory.specs.Table.{Axiom}
@@ -30,6 +30,9 @@ nth_some l k h = ⊎_elim (λ (a, _, e, _). (a, e)) (λ (past, _). absurd (omega
 
 pub nth_map : {A B : Type 0} (f : A → B) (l : List A) (k : ℕ) (a : A) → slice_get l k ≡ Some a → slice_get (map f l) k ≡ Some (f a)
 nth_map f l k a e = slice_get-map f l k ∙ ap (option_map f) e
+
+pub nth_mapped : {A B : Type 0} (f : A → B) (xs : List A) (i : ℕ) (x : A) → i < length xs → x ≡ get_or xs i x → slice_get (map f xs) i ≡ Some (f x)
+nth_mapped f xs i x h e = nth_map f xs i x (slice_get_read xs (length xs) i x refl h e)
 
 -- a list with these elements at these places
 pub same_places : {A : Type 0} (l m : List A) → length l ≡ length m → ((k : ℕ) (a : A) → slice_get l k ≡ Some a → slice_get m k ≡ Some a) → l ≡ m

@@ -1,11 +1,10 @@
-use Rattle.std.proofs.Common.{◌≡◌, ◌++◌, Some, length, is_ok, refl, sym, ap, ◌∙◌, arith}
+use Rattle.std.proofs.Common.{◌≡◌, ◌++◌, Some, length, is_ok, sym, ap, ◌∙◌, arith}
 use lib.ListN.{length-map}
 use Rattle.std.specs.List.{slice_get}
 use Rattle.std.proofs.Output.{writes_in_calls_nil, has_written_append, has_written_of_eq}
 use Rattle.theory.specs.Lists.{up_from, each}
 use Rattle.theory.specs.Roles.{is_unsafe}
-use Rattle.std.proofs.lemmas.Option.{slice_get_read}
-use Rattle.theory.proofs.Places.{nth_map}
+use Rattle.theory.proofs.Places.{nth_mapped}
 use Rattle.layout.specs.Meaning.{axiom_in}
 use Rattle.table.specs.Answers.{meaning}
 use Rattle.inspection.specs.Notation.{line_or, line_text}
@@ -21,7 +20,7 @@ loop-k-preserved g c plain =
     let k = c.loop-k.k in
     let before = c.loop-k.invariant plain in
     let at : slice_get t.axioms k ≡ Some (axiom_in c.axiom-item.result) =
-    ap (λ l. slice_get l k) (sym c.axioms-axiom-items.ensures.means) ∙ nth_map axiom_in c.axioms-axiom-items.result.now k c.axiom-item.result (slice_get_read _ _ k c.axiom-item.result refl c.loop-k-test.true c.axiom-item.is) in
+    ap (λ l. slice_get l k) (sym c.axioms-axiom-items.ensures.means) ∙ nth_mapped axiom_in c.axioms-axiom-items.result.now k c.axiom-item.result c.loop-k-test.true c.axiom-item.is in
     has_written_of_eq g.W.Write.write_str_gives _ _ _ _ (ap (λ x. each (line_text t) (up_from 0 k) ++ line_or k (is_unsafe t k) x) (sym at) ∙ each_more (line_text t) k)
     (has_written_append g.W.Write.write_str_gives _ _ _ _ _ before (c.write.ensures.writes before.plain (ap is_ok c.in_ok-write.was)))
 
