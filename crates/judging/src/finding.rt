@@ -7,14 +7,14 @@ use ledger::Full;
 use verdict::Verdict;
 
 /// The verdict on a table, with the trials made and the passes ended.
-#[derive(Clone, Copy)]
+#[derive(Clone, Copy, PartialEq, Eq, Debug)]
 pub struct Finding {
     pub verdict: Verdict,
     pub done: Progress,
 }
 
 /// Why judging needs more entries than the ledger has rows: its first entries find none, or a trial does.
-#[derive(Clone, Copy)]
+#[derive(Clone, Copy, PartialEq, Eq, Debug)]
 pub enum Overfull {
     AtStart(Full),
     AtTrial(Halted),
