@@ -1,4 +1,4 @@
-ghost use Rattle.std.specs.Prelude.{◌≡◌, ℕ, ◌<◌, Decides, MatchOption};
+ghost use Rattle.std.specs.Prelude.{◌≡◌, ℕ, ◌<◌, MatchOption, IsTrue, ◌↔◌};
 ghost use Rattle.graph.specs.Digraph.{Leads};
 ghost use Rattle.graph.specs.declared.reach.Visit.TheVariants.{Seen};
 ghost use Rattle.graph.specs.Visits.{visit_at, Follows};
@@ -45,7 +45,7 @@ fn follow<G: Graph>(g: &G, x: usize, visits: &[Visit; MOST]) -> [Visit; MOST]
 
 /// Whether a path of zero or more edges leads from `a` to `b`. No edge leads to or from a number that is no node.
 pub fn reaches<G: Graph>(g: &G, a: usize, b: usize) -> bool
-    ensures { Decides result (Leads (G.digraph g.now) a b) }
+    ensures { IsTrue result ↔ Leads (G.digraph g.now) a b }
 {
     let n = g.nodes();
     if a >= n || b >= n {

@@ -1,5 +1,5 @@
 -- The text of a table, byte by byte.
-use Rattle.std.specs.Prelude.{ℕ, Bool, cond, List, [], ◌∷◌, ◌++◌, length, Some, None, codes, decimal, Option}
+use Rattle.std.specs.Prelude.{ℕ, Bool, List, [], ◌∷◌, ◌++◌, length, Some, None, codes, decimal, Option, if◌then◌else◌}
 use Rattle.std.specs.List.{slice_get}
 use Rattle.theory.specs.Lists.{count_of, up_from, each}
 use Rattle.theory.specs.Roles.{is_simple, is_unsafe}
@@ -28,7 +28,7 @@ axiom_text (open_role p) = role_text p ++ codes " open"
 
 -- what follows an unsafe axiom
 abbrev pub unsafe_text : Bool → List ℕ
-unsafe_text b = cond b (codes " (unsafe)") []
+unsafe_text b = if b then codes " (unsafe)" else []
 
 -- the line of an axiom, with its number
 abbrev pub axiom_line : ℕ → Bool → Axiom → List ℕ

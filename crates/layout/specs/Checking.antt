@@ -1,5 +1,5 @@
 -- Which refusals apply to a table, in which order they are looked for, and so what checking answers.
-use Rattle.std.specs.Prelude.{ℕ, ◌+◌, ◌*◌, Bool, false, cond, not, ◌&&◌, List, [], ◌∷◌, ◌++◌, map, length, take, Some, None, Option, ◌==◌, nat_le, nat_lt, slice_index}
+use Rattle.std.specs.Prelude.{ℕ, ◌+◌, ◌*◌, Bool, false, not, ◌&&◌, List, [], ◌∷◌, ◌++◌, map, length, take, Some, None, Option, ◌==◌, nat_le, nat_lt, slice_index, if◌then◌else◌}
 use Rattle.std.specs.List.{slice_get}
 use Rattle.theory.specs.Lists.{any_of, count_of, up_from, each}
 use Rattle.theory.specs.Table.{Axiom, Table, same_line, has_form}
@@ -51,7 +51,7 @@ order n = header_tests ++ (each line_tests (up_from 0 n) ++ (map TooManyWitnesse
 -- the first that applies
 abbrev pub first : (Refusal → Bool) → List Refusal → Option Refusal
 first p [] = None
-first p (f ∷ fs) = let rest = first p fs in cond (p f) (Some f) rest
+first p (f ∷ fs) = let rest = first p fs in if p f then Some f else rest
 
 pub data Outcome : Type 0 where
   accepted : Table → Outcome

@@ -1,5 +1,5 @@
 -- What is taken for the sizes of a table and for one of its lines.
-use Rattle.std.specs.Prelude.{◌≡◌, ℕ, true, false, cond, not, List, Some, None, Ok, Err, Option, Result, MatchOption}
+use Rattle.std.specs.Prelude.{◌≡◌, ℕ, true, false, not, List, Some, None, Ok, Err, Option, Result, MatchOption, if◌then◌else◌}
 use Rattle.theory.specs.Lists.{any_of}
 use Rattle.theory.specs.Table.{Table, Line, line, same_line, axiom_of}
 use Rattle.layout.specs.declared.axiom.Axiom.{Axiom}
@@ -14,8 +14,7 @@ use Rattle.layout.specs.Meaning.{axiom_in}
 -- the first size outside its limits
 abbrev pub size_refusal : ℕ → ℕ → ℕ → ℕ → Option Refusal
 size_refusal c r i n =
-    cond (not (size_fits 0 c)) (Some (SizeOutOfLimits Concepts))
-    (cond (not (size_fits 1 r)) (Some (SizeOutOfLimits Roles)) (cond (not (size_fits 2 i)) (Some (SizeOutOfLimits Individuals)) (cond (not (size_fits 3 n)) (Some (SizeOutOfLimits Axioms)) None)))
+    if not (size_fits 0 c) then (Some (SizeOutOfLimits Concepts)) else (if not (size_fits 1 r) then (Some (SizeOutOfLimits Roles)) else (if not (size_fits 2 i) then (Some (SizeOutOfLimits Individuals)) else (if not (size_fits 3 n) then (Some (SizeOutOfLimits Axioms)) else None)))
 
 abbrev pub SizesTaken : ℕ → ℕ → ℕ → ℕ → Result Sizes Refusal → Type 0
 SizesTaken c r i n (Ok z) = (size_refusal c r i n ≡ None) × (z.concepts ≡ c) × (z.roles ≡ r) × (z.individuals ≡ i) × (z.axioms ≡ n)
@@ -24,7 +23,7 @@ SizesTaken c r i n (Err f) = size_refusal c r i n ≡ Some f
 -- the first test that line k fails, after these lines
 abbrev pub line_refusal : Table → List Line → ℕ → Line → Option Refusal
 line_refusal t earlier k l =
-    cond (not (has_kinds (kinds_of l.form))) (Some (UnknownForm k)) (cond (not (fits_line t l)) (Some (BadArgument k)) (cond (any_of (same_line l) earlier) (Some (Repeated k)) None))
+    if not (has_kinds (kinds_of l.form)) then (Some (UnknownForm k)) else (if not (fits_line t l) then (Some (BadArgument k)) else (if any_of (same_line l) earlier then (Some (Repeated k)) else None))
 
 abbrev pub LineTaken : Table → List Line → ℕ → Line → Result Axiom Refusal → Type 0
 LineTaken t earlier k l (Ok a) = (line_refusal t earlier k l ≡ None) × (axiom_of l ≡ Some (axiom_in a))

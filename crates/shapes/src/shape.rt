@@ -1,4 +1,4 @@
-ghost use Rattle.std.specs.Prelude.{◌<◌, Decides};
+ghost use Rattle.std.specs.Prelude.{◌<◌, IsTrue, ◌↔◌};
 ghost use Rattle.graph.specs.Digraph.{Leads};
 ghost use Rattle.shapes.specs.Cycles.{Turns, DirectedCycle, UndirectedCycle, Rejoined};
 ghost use Rattle.shapes.specs.Shapes.{Shaped};
@@ -19,21 +19,21 @@ pub enum Shape {
 /// Whether a path of one or more edges leads from the node back to it.
 fn turns<G: Graph>(g: &G, a: usize) -> bool
     requires { a < (G.digraph g.now).nodes }
-    ensures { Decides result (Turns (G.digraph g.now) a) }
+    ensures { IsTrue result ↔ Turns (G.digraph g.now) a }
 {
     (0..g.nodes()).any(|b| g.edge(a, b) && reaches(g, b, a))
 }
 
 /// Whether there is a directed cycle.
 fn cyclic<G: Graph>(g: &G) -> bool
-    ensures { Decides result (DirectedCycle (G.digraph g.now)) }
+    ensures { IsTrue result ↔ DirectedCycle (G.digraph g.now) }
 {
     (0..g.nodes()).any(|a| turns(g, a))
 }
 
 /// Whether a path leads from `a` to `b` without the edges between the two.
 fn rejoins<G: Graph>(g: &G, a: usize, b: usize) -> bool
-    ensures { Decides result (Leads (without (G.digraph g.now) a b) a b) }
+    ensures { IsTrue result ↔ Leads (without (G.digraph g.now) a b) a b }
 {
     let rest = Without {
         graph: g,
@@ -46,7 +46,7 @@ fn rejoins<G: Graph>(g: &G, a: usize, b: usize) -> bool
 /// Whether from the node an edge, either way, leads to one from which it is reached without that edge.
 fn rejoined<G: Graph>(g: &G, a: usize) -> bool
     requires { a < (G.digraph g.now).nodes }
-    ensures { Decides result (Rejoined (G.digraph g.now) a) }
+    ensures { IsTrue result ↔ Rejoined (G.digraph g.now) a }
 {
     let both = Undirected { graph: g };
     (0..g.nodes()).any(|b| both.edge(a, b) && rejoins(&both, a, b))
@@ -55,7 +55,7 @@ fn rejoined<G: Graph>(g: &G, a: usize) -> bool
 /// Whether a graph with no directed cycle has an undirected one.
 fn ringed<G: Graph>(g: &G) -> bool
     requires { DirectedCycle (G.digraph g.now) → ⊥ }
-    ensures { Decides result (UndirectedCycle (G.digraph g.now)) }
+    ensures { IsTrue result ↔ UndirectedCycle (G.digraph g.now) }
 {
     (0..g.nodes()).any(|a| rejoined(g, a))
 }

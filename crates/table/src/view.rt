@@ -1,4 +1,4 @@
-ghost use Rattle.std.specs.Prelude.{◌≡◌, ◌<◌, ◌≤◌, map, length, Decides};
+ghost use Rattle.std.specs.Prelude.{◌≡◌, ◌<◌, ◌≤◌, map, length, IsTrue, ◌↔◌};
 ghost use Rattle.std.specs.List.{slice_get};
 ghost use Rattle.std.specs.Option.{option_map};
 ghost use Rattle.theory.specs.Lists.{count_of, up_from};
@@ -53,14 +53,14 @@ impl Checked {
 
     /// Whether it declares the role.
     fn declares(&self, role: Role) -> bool
-        ensures { Decides result (role.number < (meaning self.now).roles) }
+        ensures { IsTrue result ↔ (role.number < (meaning self.now).roles) }
     {
         u16::from(role.number) < self.sizes.roles
     }
 
     /// Whether the one role expression is included in the other: an undeclared one only in itself.
     pub fn includes(&self, lower: Expression, upper: Expression) -> bool
-        ensures { Decides result (Included (meaning self.now) (expression_in lower) (expression_in upper)) }
+        ensures { IsTrue result ↔ Included (meaning self.now) (expression_in lower) (expression_in upper) }
     {
         if self.declares(lower.role()) && self.declares(upper.role()) {
             self.stated().includes(lower, upper)
@@ -71,14 +71,14 @@ impl Checked {
 
     /// Whether no transitive role is included in this one.
     pub fn is_simple(&self, role: Role) -> bool
-        ensures { Decides result (Simple (meaning self.now) role.number) }
+        ensures { IsTrue result ↔ Simple (meaning self.now) role.number }
     {
         !self.declares(role) || self.stated().is_simple(role)
     }
 
     /// Whether axiom k asks for a witness by an unsafe role.
     pub fn is_unsafe(&self, k: usize) -> bool
-        ensures decides { Decides result (Unsafe (meaning self.now) k) }
+        ensures decides { IsTrue result ↔ Unsafe (meaning self.now) k }
         ensures computes { result ≡ is_unsafe (meaning self.now) k }
     {
         self.axiom(k)

@@ -1,5 +1,5 @@
 -- Words on lists. The library has its own for most, and these stay: the contracts and definitions of every crate above are stated in them.
-use Rattle.std.specs.Prelude.{ℕ, zero, suc, Bool, true, false, cond, ◌&&◌, ◌||◌, List, [], ◌∷◌, ◌++◌}
+use Rattle.std.specs.Prelude.{ℕ, zero, suc, Bool, true, false, ◌&&◌, ◌||◌, List, [], ◌∷◌, ◌++◌, if◌then◌else◌}
 use mathlib.Core.List.{Memᴰ}
 
 -- a is on the list
@@ -20,7 +20,7 @@ all_of p (a ∷ l) = let rest = all_of p l in p a && rest
 -- how many elements pass
 abbrev pub count_of : {A : Type 0} → (A → Bool) → List A → ℕ
 count_of p [] = 0
-count_of p (a ∷ l) = let rest = count_of p l in cond (p a) (suc rest) rest
+count_of p (a ∷ l) = let rest = count_of p l in if p a then suc rest else rest
 
 -- from, from + 1, ..: n numbers
 abbrev pub up_from : ℕ → ℕ → List ℕ

@@ -1,5 +1,5 @@
 -- Role expressions, ⊑*, simple roles and unsafe axioms: as relations, and as tests that compute.
-use Rattle.std.specs.Prelude.{◌≡◌, ℕ, ◌+◌, ◌-◌, Bool, false, cond, not, ◌&&◌, ◌||◌, List, [], ◌∷◌, Some, None, Option, ◌==◌, ◌≢◌, nat_lt}
+use Rattle.std.specs.Prelude.{◌≡◌, ℕ, ◌+◌, ◌-◌, Bool, false, not, ◌&&◌, ◌||◌, List, [], ◌∷◌, Some, None, Option, ◌==◌, ◌≢◌, nat_lt, if◌then◌else◌}
 use Rattle.std.specs.List.{slice_get}
 use Rattle.graph.specs.Digraph.{Digraph}
 use Rattle.graph.specs.Reached.{reached}
@@ -69,7 +69,7 @@ node_of t (plain p) = p
 node_of t (inverse p) = t.roles + p
 
 abbrev pub expression_at : Table → ℕ → Expression
-expression_at t k = cond (nat_lt k t.roles) (plain k) (inverse (k - t.roles))
+expression_at t k = if nat_lt k t.roles then plain k else (inverse (k - t.roles))
 
 abbrev pub includes_by : Expression → Expression → Axiom → Bool
 includes_by e f a = any_of (is_inclusion e f) (inclusions a)

@@ -1,5 +1,5 @@
 -- The tables that are accepted: as a relation, and as a test that computes.
-use Rattle.std.specs.Prelude.{◌≡◌, ℕ, ◌≤◌, Bool, true, cond, not, ◌&&◌, List, [], ◌∷◌, length, nat_le, nat_lt}
+use Rattle.std.specs.Prelude.{◌≡◌, ℕ, ◌≤◌, Bool, true, not, ◌&&◌, List, [], ◌∷◌, length, nat_le, nat_lt, if◌then◌else◌}
 use Rattle.theory.specs.Lists.{◌∈◌, any_of, all_of, count_of}
 use Rattle.theory.specs.Table.{Axiom, Table, sub_role, sub_inverse, transitive, conjunction, nominal, filler, at_most_one, exists, range, has_value, open_concept, open_role, line_of, has_form, same_line}
 use Rattle.theory.specs.Roles.{Simple, is_simple}
@@ -47,7 +47,7 @@ apart (a ∷ l) = let rest = apart l in not (any_of (λ b. same_line (line_of a)
 
 -- the role of a form 7 axiom is simple
 abbrev pub counts_simple : Table → Axiom → Bool
-counts_simple t a = cond (has_form 7 a) (is_simple t (line_of a).q) true
+counts_simple t a = if has_form 7 a then (is_simple t (line_of a).q) else true
 
 abbrev pub well_formed : Table → Bool
 well_formed t =

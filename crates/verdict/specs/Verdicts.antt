@@ -1,5 +1,5 @@
 -- The verdict on a table: what the derivable edges are as a graph.
-use Rattle.std.specs.Prelude.{◌≡◌, ℕ, ◌<◌, Bool, length, Decides}
+use Rattle.std.specs.Prelude.{◌≡◌, ℕ, ◌<◌, Bool, length, IsTrue, ◌↔◌}
 use Rattle.graph.specs.Digraph.{Digraph}
 use Rattle.shapes.specs.Surveys.{Surveyed}
 use Rattle.theory.specs.Table.{Table}
@@ -16,7 +16,7 @@ DerivedEdge t i j = Derivable t (role edge (term_at (judging_terms t) i) (term_a
 -- The graph has a node for each term of judging, and an edge where E is derivable.
 pub record EdgesOf (t : Table) (g : Digraph) : Type 0 where
   pub nodes : g.nodes ≡ length (judging_terms t)
-  pub edges : (i j : ℕ) → i < g.nodes → j < g.nodes → Decides (g.edge i j) (DerivedEdge t i j)
+  pub edges : (i j : ℕ) → i < g.nodes → j < g.nodes → IsTrue (g.edge i j) ↔ DerivedEdge t i j
 
 -- whether node i is the witness of an unsafe axiom
 abbrev pub unsafe_node : Table → ℕ → Bool
