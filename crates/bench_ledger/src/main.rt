@@ -71,6 +71,7 @@ fn fill_and_ask<L: Ledger>(ledger: &mut L, numbers: u32) -> Counts {
             Err(_) => counts.refused += 1,
         }
     }
+    // One walk counts both answers.
     for number in 0..numbers {
         if ledger.holds(link(number % FACTS)) {
             counts.held += 1;

@@ -24,6 +24,7 @@ impl Overfull {
     }
 }
 
+// Written here again, and not one type with that of tables: the place of the one is a u8, of the other a u16.
 impl Display for Overfull {
     ghost output = { λ o. Some (overfull_text o) };
 

@@ -8,6 +8,7 @@ impl Sizes {
     pub fn new(concepts: u16, roles: u16, individuals: u16, axioms: u16) -> Result<Sizes, Refusal>
         ensures { SizesTaken concepts roles individuals axioms result }
     {
+        // Four tests and no loop: each size has limits and a name of its own.
         if !(2..=32).contains(&concepts) {
             return Err(Refusal::SizeOutOfLimits(Size::Concepts));
         }

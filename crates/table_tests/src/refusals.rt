@@ -155,7 +155,6 @@ fn bytes_of_any_kind_are_read_or_refused(rt: HostRuntime) -> Result<(), Fail> {
     let heap = rt.alloc();
     let mut seed = 7u32;
     let mut refused = 0u32;
-    // each byte changes the seed of the next, so a loop is plainer than a chain
     // Loops and no chains: one seed runs through all the tables.
     for length in 0..400u32 {
         let mut bytes = Vec::new(heap);

@@ -12,6 +12,7 @@ fn drawn(mut rows: Rows, fact: Fact) -> Rows
     ensures nodes { result.count ≡ rows.count }
     ensures edges { (i j : ℕ) → (tabled result.rows result.count).edge i j ≡ ((tabled rows.rows rows.count).edge i j || links i j fact) }
 {
+    // The role is compared apart: nested in the pattern, its value would be lost to the proof.
     if let Fact::Link(role, x, y) = fact
         && role == Role::EDGE
     {

@@ -1,5 +1,7 @@
-// Judges the table on standard input, as often as the first argument says or else once, and prints what was found with the trials made and the passes ended.
-use judgement::{Judgement, judge_table};
+// Judges the table on standard input, as often as the first argument says or else once, and prints the trials made and the passes ended.
+#![tactic(auto)]
+
+use judgement::judge_table;
 use ledger::Entry;
 use ledgers::BitLedger;
 use std::env;
@@ -24,11 +26,12 @@ fn main(rt: HostRuntime) -> anyhow::Result<()> {
     let mut passes = 0u64;
     for _ in 0..runs(&rt)? {
         let answer = judge_table(bytes.as_slice(), BitLedger::new(rows.as_mut_slice()));
-        if let Judgement::Found(_, done) = &answer.judgement {
-            trials = trials.saturating_add(done.trials);
-            passes = passes.saturating_add(done.passes);
-        } else {
-            print!(rt; "{}", answer.judgement)?;
+        match &answer.judgement.0 {
+            Ok(found) => {
+                trials = trials.saturating_add(found.done.trials);
+                passes = passes.saturating_add(found.done.passes);
+            }
+            Err(unjudged) => println!(rt; "{unjudged}")?,
         }
     }
     println!(rt; "{trials} trials, {passes} passes")?;
