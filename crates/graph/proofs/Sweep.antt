@@ -93,7 +93,7 @@ module _ (g : Digraph) (a x : ℕ) (old new : List Visit) (s : Swept g a old) (f
       x was ((f x h).followed.1 (inl refl))
 
 -- all that is known is followed: every path stays in what is known
-module _ (g : Digraph) (a : ℕ) (visits : List Visit) (s : Swept g a visits) (few : g.nodes ≤ 48) (quiet : (k : ℕ) → k < 48 → visit_at visits k ≡ Seen → ⊥) where
+module _ (g : Digraph) (a : ℕ) (visits : List Visit) (s : Swept g a visits) (quiet : (k : ℕ) → k < g.nodes → visit_at visits k ≡ Seen → ⊥) where
   settled : (v : Visit) → IsKnown v → (v ≡ Seen → ⊥) → v ≡ Followed
   settled Unseen i q = absurd (i refl)
   settled Seen i q = absurd (q refl)
@@ -101,7 +101,7 @@ module _ (g : Digraph) (a : ℕ) (visits : List Visit) (s : Swept g a visits) (f
 
   stays_known : {x b : ℕ} → IsKnown (visit_at visits x) → Leads g x b → IsKnown (visit_at visits b)
   stays_known known stay = known
-  stays_known {x} known (step t p) = stays_known (s.closed _ _ t (settled (visit_at visits x) known (quiet x (omega (arith, t.from))))) p
+  stays_known {x} known (step t p) = stays_known (s.closed _ _ t (settled (visit_at visits x) known (quiet x t.from))) p
 
   pub swept_all : (b : ℕ) → IsKnown (visit_at visits b) ↔ Leads g a b
   swept_all b = (λ e. (s.sound b e).1, λ p. stays_known s.start p)

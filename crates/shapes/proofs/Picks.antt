@@ -1,5 +1,5 @@
 -- The largest number of those that pass, over the numbers below n.
-use Rattle.std.proofs.Common.{◌≡◌, ℕ, zero, suc, ◌+◌, ◌<◌, ◌≤◌, max, Bool, true, false, cond, ◌⊎◌, List, [], ◌∷◌, map, filter, Option, Some, None, refl, sym, subst, ap, ◌∙◌, inl, inr, ⊎_elim, arith}
+use Rattle.std.proofs.Common.{◌≡◌, ℕ, zero, suc, ◌+◌, ◌<◌, ◌≤◌, nat_lt, ◌&&◌, max, Bool, true, false, cond, ◌⊎◌, List, [], ◌∷◌, map, filter, Option, Some, None, refl, sym, subst, ap, ◌∙◌, inl, inr, ⊎_elim, arith}
 use Rattle.std.specs.List.{range_with_len, fold, reduce}
 use Rattle.std.specs.Option.{option_map, unwrap_or}
 use Rattle.graph.specs.Digraph.{Digraph}
@@ -40,16 +40,21 @@ largest_fold [] (Some v) e = absurd (cc)
 largest_fold (y ∷ l) None e = absurd (cc)
 largest_fold (y ∷ l) (Some v) e = let first : max 0 y ≡ y = omega arith in let q : v ≡ fold max y l = cc in q ∙ ap (λ k. fold max k l) (sym first)
 
+second : (b c : Bool) → (b && c) ≡ true → c ≡ true
+second true c e = e
+second false c e = absurd (cc)
+
 pub best_by :
     (g : Digraph) (best : ℕ → ℕ) (x n : ℕ) (r : Option ℕ) (m : ℕ)
     → x < g.nodes
     → n ≡ g.nodes
-    → option_map (λ v. v) r ≡ reduce max (map best (filter (g.edge x) (range_with_len 0 n)))
+    → option_map (λ v. v) r ≡ reduce max (map best (filter (λ y. nat_lt 0 (best y) && g.edge x y) (range_with_len 0 n)))
     → m ≡ unwrap_or r 0
     → BestAfter g best x m
 best_by g best x n r m h same e is =
-    let q = subst (λ v. Picked best (g.edge x) 0 (0 + n) 0 v) (sym (is ∙ largest_fold _ r e)) (picked best (g.edge x) 0 n 0) in
+    let p : ℕ → Bool = λ y. nat_lt 0 (best y) && g.edge x y in
+    let q = subst (λ v. Picked best p 0 (0 + n) 0 v) (sym (is ∙ largest_fold _ r e)) (picked best p 0 n 0) in
     record {
-      above = λ y s. let i = s.to in q.above y (omega arith) (omega arith) s.runs;
-      least = ⊎_elim (λ z. inl z) (λ (y, i, t, z). inr (y, record { from = h; to = omega arith; runs = t }, z)) q.one;
+      above = λ y s. let i = s.to in let more = q.above y (omega arith) (omega arith) in let run = s.runs in grind (arith, more, run);
+      least = ⊎_elim (λ z. inl z) (λ (y, i, t, z). inr (y, record { from = h; to = omega arith; runs = second (nat_lt 0 (best y)) (g.edge x y) t }, z)) q.one;
     }

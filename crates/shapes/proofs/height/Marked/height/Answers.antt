@@ -10,7 +10,7 @@ pub loop-round-preserved : goal.loop-round-preserved
 loop-round-preserved g c =
     λ x h.
     best_more (g.G.Graph.digraph c.args.self.now.graph.now) (marks c.args.self.now.marked.now) c.loop-round._round (λ y. get_or c.loop-round.best y 0)
-    c.loop-round.invariant x (get_or c.relaxed-best.result x 0) h (c.relaxed-best.ensures x (omega arith) h)
+    c.loop-round.invariant x (get_or c.relaxed-best.result x 0) h (c.relaxed-best.ensures x h)
 
 pub returns : goal.returns
 returns g c =

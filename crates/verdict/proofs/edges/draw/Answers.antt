@@ -1,7 +1,7 @@
 use Rattle.std.proofs.Common.{◌≡◌, ap, rules, tests}
 use Rattle.graph.specs.Digraph.{Digraph}
 use Rattle.verdict.proofs.Drawing.{link_drawn}
-use Rattle.verdict.proofs.edges.drawn.Goals as goal
+use Rattle.verdict.proofs.edges.draw.Goals as goal
 
 pub returns-then-eq-clause-edges : goal.returns-then-eq-clause-edges
 returns-then-eq-clause-edges c =
