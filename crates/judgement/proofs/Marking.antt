@@ -23,13 +23,13 @@ use Rattle.judgement.specs.declared.judgement.Unjudged.TheVariants.{Refused, Ove
 use Rattle.judgement.specs.Answering.{Says, JudgedAs}
 use Rattle.judgement.specs.Lines.{newline, outcome_text, judgement_text}
 use Rattle.shapes.specs.Naming.{shape_text}
-use Rattle.verdict.specs.Lines.{verdict_text}
+use Rattle.verdict.specs.Lines.{verdict_words}
 
 -- a verdict with numbers below ten, byte by byte
 abbrev short_text : Shape → ℕ → ℕ → List ℕ
 short_text s h u = shape_text s ++ (codes " h=" ++ ((48 + h) ∷ (codes " u=" ++ ((48 + u) ∷ []))))
 
-short : (s : Shape) (h u : ℕ) → h < 10 → u < 10 → verdict_text (found s h u) ≡ short_text s h u
+short : (s : Shape) (h u : ℕ) → h < 10 → u < 10 → verdict_words (found s h u) ≡ short_text s h u
 short s h u a b = rw (decimal_digit h a, decimal_digit u b) refl
 
 pub line_of : (t : Table) (s : Shape) (h u : ℕ) (unsafe : List ℕ) (drawn : List (Fact ℕ)) → h < 10 → u < 10 → well_formed t ≡ true → Starts t 4096 → VerdictOf t (found s h u) → JudgedTo t unsafe drawn
@@ -38,7 +38,7 @@ line_of t s h u unsafe drawn a b ok fits own judged j es said =
     ap (λ l. l ++ newline) (go j.0 (subst (λ o. Says o 4096 j.0 es) (table_read_back t ((well_formed_decides t).0 ok)) said))
   where
     go : (r : Result Found Unjudged) → JudgedAs t 4096 r es → outcome_text r ≡ short_text s h u
-    go (Ok f) (same, one, rest) = ap verdict_text (one_verdict t f.judged.verdict (found s h u) one own) ∙ short s h u a b
+    go (Ok f) (same, one, rest) = ap verdict_words (one_verdict t f.judged.verdict (found s h u) one own) ∙ short s h u a b
     go (Err (Refused f)) never = absurd never
     go (Err (Overfull k o)) (same, why, place, none) =
         let law = judging_stands t ((well_formed_decides t).0 ok) in

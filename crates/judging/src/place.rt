@@ -4,13 +4,14 @@ ghost use Rattle.judging.specs.Refusals.{overfull, overfull_text};
 
 use crate::finding::Overfull;
 use std::fmt::{Display, Formatter, Result, Write};
+use verdict::OVERFULL;
 
 impl Overfull {
     /// The number by which owners know the refusal, next after those of tables.
     pub fn number(self) -> u8
         ensures { result ≡ overfull }
     {
-        9
+        OVERFULL
     }
 
     /// The place of the refusal: the rule that needs more rows, 0 before the first.

@@ -32,9 +32,10 @@ place_of (Repeated k) = k
 place_of (TooManyWitnesses k) = k
 place_of (NotSimple k) = k
 
-abbrev pub refused_text : ℕ → ℕ → List ℕ
-refused_text n p = codes "refused " ++ (decimal n ++ (codes " at " ++ decimal p))
+-- refused N at P
+abbrev pub refused_at : ℕ → ℕ → List ℕ
+refused_at n p = codes "refused " ++ (decimal n ++ (codes " at " ++ decimal p))
 
 -- the number of a refusal, and where it applies
 abbrev pub refusal_text : Refusal → List ℕ
-refusal_text f = refused_text (number_of f) (place_of f)
+refusal_text f = refused_at (number_of f) (place_of f)

@@ -1,5 +1,5 @@
 ghost use Rattle.std.specs.Prelude.{Some};
-ghost use Rattle.verdict.specs.Lines.{verdict_text};
+ghost use Rattle.verdict.specs.Lines.{verdict_words};
 
 use shapes::shape::Shape;
 use std::fmt::{Display, Formatter, Result, Write};
@@ -14,7 +14,7 @@ pub struct Verdict {
 }
 
 impl Display for Verdict {
-    ghost output = { λ v. Some (verdict_text v) };
+    ghost output = { λ v. Some (verdict_words v) };
 
     fn fmt<W: Write>(&self, f: &mut Formatter<W>) -> Result {
         let Verdict {
