@@ -3,7 +3,9 @@
 
 mod finding;
 mod judging;
+mod line;
 mod place;
 
 pub use crate::finding::{Finding, Overfull};
 pub use crate::judging::{bench, judge};
+pub use crate::line::judgement;
