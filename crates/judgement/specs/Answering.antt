@@ -5,6 +5,8 @@ use Rattle.chase.specs.Judging.{JudgingRefused}
 use Rattle.chase.specs.Trials.{Entry, State}
 use Rattle.layout.specs.Checking.{Outcome, accepted, refused}
 use Rattle.table.specs.Answers.{meaning}
+use Rattle.verdict.specs.declared.judgement.Judgement as short
+use Rattle.verdict.specs.declared.judgement.Judgement.TheVariants as short_as
 use Rattle.verdict.specs.Verdicts.{VerdictOf}
 use Rattle.judging.specs.Judgings.{JudgesIn, OverfullIn, place_of}
 use Rattle.judgement.specs.declared.judgement.Found.{Found}
@@ -26,3 +28,9 @@ Says (refused f) rows r es = r ≡ Err (Refused f)
 abbrev pub Leaves : {L : Type 0} → Outcome → (L → Type 0) → L → L → Type 0
 Leaves (accepted t) usable before after = usable after
 Leaves (refused f) usable before after = after ≡ before
+
+-- the verdict, the refusal, or the rule that needs more rows
+abbrev pub shortened : Result Found Unjudged → short.Judgement
+shortened (Ok f) = short_as.Found f.judged.verdict
+shortened (Err (Refused f)) = short_as.Refused f
+shortened (Err (Overfull k o)) = short_as.Overfull (place_of o)

@@ -4,6 +4,7 @@
 mod answer;
 mod judgement;
 mod laws;
+mod short;
 mod telling;
 mod text;
 
