@@ -20,29 +20,17 @@ fn waiting(visits: &[Visit]) -> Option<usize>
     visits.iter().position(|visit| *visit == Visit::Seen)
 }
 
-/// How far the search has come with `y` once `x` is followed: an edge from `x` to `y` shows `y`.
-fn followed<G: Graph>(g: &G, x: usize, y: usize, visit: Visit) -> Visit
-    requires from { x < (G.digraph g.now).nodes }
-    requires to { y < (G.digraph g.now).nodes }
-    ensures { Follows (G.digraph g.now) x y visit result }
-{
-    if y == x {
-        Visit::Followed
-    } else if visit == Visit::Unseen && g.edge(x, y) {
-        Visit::Seen
-    } else {
-        visit
-    }
-}
-
-/// Follows the edges from `x`. Only nodes are looked at, so that a small graph costs little.
+/// Shows the nodes to which an edge leads from `x`, and follows `x`. Only nodes are looked at, so that a small graph costs little.
 fn follow<G: Graph>(g: &G, x: usize, visits: &mut [Visit; MOST])
     requires { x < (G.digraph g.now).nodes }
     ensures { (y : ℕ) → Follows (G.digraph g.now) x y (visit_at visits.old y) (visit_at visits.new y) }
 {
     for y in 0..g.nodes() {
-        visits[y] = followed(g, x, y, visits[y]);
+        if visits[y] == Visit::Unseen && g.edge(x, y) {
+            visits[y] = Visit::Seen;
+        }
     }
+    visits[x] = Visit::Followed;
 }
 
 /// Whether a path of zero or more edges leads from `a` to `b`. No edge leads to or from a number that is no node.
