@@ -5,7 +5,8 @@ use Rattle.theory.specs.Lists.{count_of, up_from, each}
 use Rattle.theory.specs.Roles.{is_simple, is_unsafe}
 use Rattle.theory.specs.Table.{Axiom, Table, sub_role, sub_inverse, transitive, conjunction, nominal, filler, at_most_one, exists, range, has_value, open_concept, open_role, has_form}
 use Rattle.layout.specs.Checking.{Outcome, accepted, refused, checked}
-use Rattle.layout.specs.Refusals.{refusal_text}
+use Rattle.layout.specs.Refusals as layout
+use Rattle.layout.specs.declared.refusal.Refusal.{Refusal}
 use Rattle.names.specs.Naming.{concept_text, role_text, individual_text}
 
 abbrev pub newline : List ℕ
@@ -63,9 +64,12 @@ counts_text t =
 abbrev pub table_text : Table → List ℕ
 table_text t = sizes_text t ++ (lines_text t ++ counts_text t)
 
+abbrev pub refusal_text : Refusal → List ℕ
+refusal_text f = layout.refusal_text f ++ newline
+
 abbrev pub outcome_text : Outcome → List ℕ
 outcome_text (accepted t) = table_text t
-outcome_text (refused f) = refusal_text f ++ newline
+outcome_text (refused f) = refusal_text f
 
 -- what inspecting bytes shows
 abbrev pub inspected : List ℕ → List ℕ
