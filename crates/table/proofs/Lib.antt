@@ -3,4 +3,5 @@ pub mod Counting
 pub mod Deciding
 pub mod Reading
 pub mod Rest
+pub mod Scanning
 pub mod Viewing
